@@ -1,0 +1,185 @@
+-- The grammar's map is the one that is read. Assumes nothing.
+use Prim.Native.Nat.{ℕ, zero, suc, _+_, _-_, _*_, _≤_, _<_}
+use mathlib.Core.Path.{_≡_, refl, sym, ap, ap₂, _∙_}
+use mathlib.Core.Bool.{Bool, true, false, cond, not, true≢false}
+use mathlib.Core.Option.{Option, none, some}
+use mathlib.Core.List.{List, [], _∷_, _++_}
+use native.Mathlib.Omega.{arith}
+use lib.Dec.{ltb, eqb, lit<}
+use lib.ListN.{length, getD, take, drop, length-drop}
+use lib.Seq.{getD-drop}
+use borrow.Author.Tests.{ltb-false, le-ltb, eqb-true, eqb-false, eq-eqb, ne-eqb}
+use Rattle.format.proofs.Tests.{same-true, true-same, false-same}
+use Rattle.format.proofs.Answers.{refused≢given, refuseIf-given, andThen-given, given-inj, not-refused, go-on, none≢some, Numbered, NotZero, answer, refusal, refuseIf-numbered, andThen-numbered}
+use Rattle.format.specs.Answer.{Answer, refused, given, refuseIf, andThen}
+use Rattle.format.specs.Bytes.{le, part, same}
+use Rattle.format.specs.Map.{MapEntry, later as laterOf, offsetOf, through, prepend, endMark, mostEntries, throughMark, entryThen, mapStep, mapFrom, mapEntries}
+use Rattle.format.specs.Grammar.Map.{Name, Entries, ended, entry, MapOf, Unlisted, Listed, last, later}
+use Rattle.format.specs.Grammar.Map.{nil, cons}
+
+-- the first '!' of s comes after k bytes
+record First (s : List ℕ) (k : ℕ) : Type 0 where
+  name-within : k < length s
+  mark : getD s k 0 ≡ 33
+  none-before : (j : ℕ) → j < k → getD s j 0 ≡ 33 → ⊥
+
+through-first : (s : List ℕ) (n : ℕ) → throughMark s ≡ some n → (k : ℕ) × (n ≡ suc k) × First s k
+unfolding throughMark
+through-first [] n e = absurd (none≢some e)
+through-first (b ∷ s) n e = go (eqb b 33) refl (throughMark s) (through-first s) e
+  where
+    first : eqb b 33 ≡ true → First (b ∷ s) 0
+    first q = record { name-within = omega arith; mark = eqb-true b 33 q; none-before = λ j h _. omega arith }
+
+    next : (k : ℕ) → eqb b 33 ≡ false → First s k → First (b ∷ s) (suc k)
+    next k q f = record { name-within = omega arith; mark = f .mark; none-before = before }
+      where
+        before : (j : ℕ) → j < suc k → getD (b ∷ s) j 0 ≡ 33 → ⊥
+        before zero h e = eqb-false b 33 q e
+        before (suc j) h e = f .none-before j (omega arith) e
+
+    go : (t : Bool) → eqb b 33 ≡ t → (r : Option ℕ) → ((n : ℕ) → r ≡ some n → (k : ℕ) × (n ≡ suc k) × First s k) → through t r ≡ some n
+        → (k : ℕ) × (n ≡ suc k) × First (b ∷ s) k
+    go true q r f e = (0, (cc), first q)
+    go false q none f e = absurd (none≢some e)
+    go false q (some k) f e = let p = f k refl in (k, (cc), rw (p .1) (next (p .0) q (p .2)))
+
+first-through : (s : List ℕ) (k : ℕ) → First s k → throughMark s ≡ some (suc k)
+unfolding throughMark
+first-through [] k f = absurd (omega (arith, f .name-within))
+first-through (b ∷ s) zero f = rw (eq-eqb b 33 (f .mark)) refl
+first-through (b ∷ s) (suc k) f =
+    rw (ne-eqb b 33 (f .none-before 0 (omega arith)), first-through s k (record { name-within = omega (arith, f .name-within); mark = f .mark; none-before = λ j h. f .none-before (suc j) (omega arith) })) refl
+
+module _ (m : List ℕ) (at k : ℕ) where
+  first-name : First (drop at m) k → Name m at k
+  first-name f =
+      let h : k < length (drop at m) = f .name-within in
+      record {
+        name-within = let h₂ = rw length-drop at h in omega arith;
+        mark = rw getD-drop at f.mark;
+        none-before = λ j l e. f .none-before j l (rw getD-drop e);
+      }
+
+  name-first : Name m at k → First (drop at m) k
+  name-first n =
+      record {
+        name-within = rw length-drop (omega (arith, n .name-within));
+        mark = rw getD-drop (n .mark);
+        none-before = λ j l e. n .none-before j l (rw getD-drop at e);
+      }
+
+-- what reads on after an entry, where there is room for one more
+data Source (m : List ℕ) : ℕ → Option (ℕ → Answer (List MapEntry)) → Type 0 where
+  full : Source m 0 none
+  free : {room : ℕ} {f : ℕ → Answer (List MapEntry)} → ((p : ℕ) (es : List MapEntry) → f p ≡ given es → Entries m p es × (length es ≤ room))
+      → Source m (suc room) (some f)
+
+step-read : (more : Option (ℕ → Answer (List MapEntry))) (room : ℕ) (m : List ℕ) (at : ℕ) (es : List MapEntry) → Source m room more
+    → mapStep more m at (throughMark (drop at m)) ≡ given es → Entries m at es × (length es ≤ room)
+unfolding mapStep
+step-read more room m at es src e = go (throughMark (drop at m)) refl e
+  where
+    last : (k : ℕ) → Name m at k → same (part m at (suc k)) endMark ≡ true → [] ≡ es → Entries m at es × (length es ≤ room)
+    last k n b e = rw (← e) (ended k n (same-true _ _ b), omega arith)
+
+    inner : (more : Option (ℕ → Answer (List MapEntry))) (room k : ℕ) (b : Bool) → Source m room more → Name m at k → same (part m at (suc k)) endMark ≡ b
+        → entryThen more m at (suc k) b ≡ given es → Entries m at es × (length es ≤ room)
+    inner more room k true src n q e = rw (← given-inj e) (ended k n (same-true _ _ q), omega arith)
+    inner none room k false src n q e = absurd (refused≢given e)
+    inner (some f) (suc room) k false (free g) n q e =
+        let (l, e₁) = refuseIf-given (ltb (length m) (at + suc k + 16)) 5 _ e in
+        let (es₂, e₂, e₃) = andThen-given (f (at + suc k + 16)) _ e₁ in
+        let r = g (at + suc k + 16) es₂ e₂ in
+        let fresh : part m at (suc k) ≡ endMark → ⊥ = λ p. true≢false (sym (true-same _ _ p) ∙ q) in
+        rw (← given-inj e₃) (entry k n fresh (ltb-false _ _ l) (r .0), omega (arith, r .1))
+
+    go : (r : Option ℕ) → throughMark (drop at m) ≡ r → mapStep more m at r ≡ given es → Entries m at es × (length es ≤ room)
+    go none q e = absurd (refused≢given e)
+    go (some n) q e =
+        let (k, h, f) = through-first (drop at m) n q in
+        inner more room k (same (part m at (suc k)) endMark) src (first-name m at k f) refl (rw h at e)
+
+-- the entries that are read are those of the grammar
+pub entries-read : (room : ℕ) (m : List ℕ) (at : ℕ) (es : List MapEntry) → mapFrom room m at ≡ given es → Entries m at es × (length es ≤ room)
+unfolding mapFrom
+entries-read zero m at es e = step-read none 0 m at es full e
+entries-read (suc room) m at es e = step-read (some (mapFrom room m)) (suc room) m at es (free (entries-read room m)) e
+
+pub read-entries : (room : ℕ) (m : List ℕ) (at : ℕ) (es : List MapEntry) → Entries m at es → length es ≤ room → mapFrom room m at ≡ given es
+unfolding mapFrom mapStep entryThen
+read-entries zero m at es (ended k n e) h = rw (first-through (drop at m) k (name-first m at k n), true-same _ _ e) refl
+read-entries zero m at es (entry k n e l r) h = absurd (omega arith)
+read-entries (suc room) m at es (ended k n e) h = rw (first-through (drop at m) k (name-first m at k n), true-same _ _ e) refl
+read-entries (suc room) m at es (entry k {es = es₂} n e l r) h =
+    rw (first-through (drop at m) k (name-first m at k n), false-same _ _ e)
+    (not-refused (ltb (length m) (at + suc k + 16)) 5 _ _ (le-ltb _ _ l)
+    (go-on (mapFrom room m (at + suc k + 16)) _ es₂ (read-entries room m (at + suc k + 16) es₂ r (omega arith)) refl))
+
+pub map-read : (m : List ℕ) (es : List MapEntry) → mapEntries m ≡ given es → MapOf m es
+unfolding mapEntries
+map-read m es e = let r = entries-read mostEntries m 0 es e in record { listed = r .0; not-too-many = r .1 }
+
+pub read-map : (m : List ℕ) (es : List MapEntry) → MapOf m es → mapEntries m ≡ given es
+unfolding mapEntries
+read-map m es r = read-entries mostEntries m 0 es (r .listed) (r .not-too-many)
+
+data Each : Option (ℕ → Answer (List MapEntry)) → Type 0 where
+  nothing : Each none
+  each : {f : ℕ → Answer (List MapEntry)} → ((p : ℕ) → Numbered NotZero (f p)) → Each (some f)
+
+then-numbered : (more : Option (ℕ → Answer (List MapEntry))) (m : List ℕ) (at n : ℕ) (b : Bool) → Each more → Numbered NotZero (entryThen more m at n b)
+unfolding entryThen
+then-numbered more m at n true h = answer
+then-numbered none m at n false h = refusal (lit< tt)
+then-numbered (some f) m at n false (each h) =
+    refuseIf-numbered (ltb (length m) (at + n + 16)) 5 _ (lit< tt) (andThen-numbered (f (at + n + 16)) _ (h (at + n + 16)) λ a. answer)
+
+step-numbered : (more : Option (ℕ → Answer (List MapEntry))) (m : List ℕ) (at : ℕ) (r : Option ℕ) → Each more → Numbered NotZero (mapStep more m at r)
+unfolding mapStep
+step-numbered more m at none h = refusal (lit< tt)
+step-numbered more m at (some n) h = then-numbered more m at n (same (part m at n) endMark) h
+
+from-numbered : (room : ℕ) (m : List ℕ) (at : ℕ) → Numbered NotZero (mapFrom room m at)
+unfolding mapFrom
+from-numbered zero m at = step-numbered none m at (throughMark (drop at m)) nothing
+from-numbered (suc room) m at = step-numbered (some (mapFrom room m)) m at (throughMark (drop at m)) (each (from-numbered room m))
+
+pub map-numbered : (m : List ℕ) → Numbered NotZero (mapEntries m)
+unfolding mapEntries
+map-numbered m = from-numbered mostEntries m 0
+
+-- ---- the last entry of a name
+
+unlisted-read : (m name : List ℕ) (es : List MapEntry) → offsetOf m name es ≡ none → Unlisted m name es
+unfolding offsetOf
+unlisted-read m name [] e = nil
+unlisted-read m name (x ∷ es) e = go (offsetOf m name es) (same (part m (x .nameAt) (x .nameLen)) name) refl (unlisted-read m name es) e
+  where
+    go : (r : Option ℕ) (b : Bool) → same (part m (x .nameAt) (x .nameLen)) name ≡ b → (r ≡ none → Unlisted m name es)
+        → laterOf r (cond b (some (x .offset)) none) ≡ none → Unlisted m name (x ∷ es)
+    go (some o) b q f e = absurd (none≢some (sym e))
+    go none true q f e = absurd (none≢some (sym e))
+    go none false q f e = cons (λ p. true≢false (sym (true-same _ _ p) ∙ q)) (f refl)
+
+read-unlisted : (m name : List ℕ) (es : List MapEntry) → Unlisted m name es → offsetOf m name es ≡ none
+unfolding offsetOf
+read-unlisted m name [] u = refl
+read-unlisted m name (x ∷ es) (cons h u) = rw (read-unlisted m name es u, false-same _ _ h) refl
+
+pub listed-read : (m name : List ℕ) (es : List MapEntry) (o : ℕ) → offsetOf m name es ≡ some o → Listed m name es o
+unfolding offsetOf
+listed-read m name [] o e = absurd (none≢some e)
+listed-read m name (x ∷ es) o e =
+    go (offsetOf m name es) refl (same (part m (x .nameAt) (x .nameLen)) name) refl (listed-read m name es) e
+  where
+    go : (r : Option ℕ) → offsetOf m name es ≡ r → (b : Bool) → same (part m (x .nameAt) (x .nameLen)) name ≡ b → ((o : ℕ) → offsetOf m name es ≡ some o → Listed m name es o)
+        → laterOf r (cond b (some (x .offset)) none) ≡ some o → Listed m name (x ∷ es) o
+    go (some p) z b q f e = later (f o (z ∙ e))
+    go none z true q f e = let k : x .offset ≡ o = cc in rw (← k) (last (same-true _ _ q) (unlisted-read m name es z))
+    go none z false q f e = absurd (none≢some e)
+
+pub read-listed : (m name : List ℕ) (es : List MapEntry) (o : ℕ) → Listed m name es o → offsetOf m name es ≡ some o
+unfolding offsetOf
+read-listed m name es o (last {e = x} {es = fs} h u) = rw (read-unlisted m name fs u, true-same _ _ h) refl
+read-listed m name es o (later {es = fs} l) = rw (read-listed m name fs o l) refl

@@ -1,0 +1,148 @@
+-- The starred lines of document 01, "Both edges", as rows under one theorem. Assumes nothing.
+use Prim.Native.Nat.{ℕ, zero, suc, _+_, _-_, _*_, _/_, _%_}
+use mathlib.Core.Path.{_≡_, refl}
+use mathlib.Core.Bool.{true, false}
+use mathlib.Core.Option.{Option, none, some}
+use Prim.Native.String.{String}
+use mathlib.Core.List.{List, [], _∷_, _++_, map}
+use lib.ListN.{length, take}
+use lib.Ieee.{Float, binary64, ofBits, ofInt, toSigned, div, sub}
+use lib.IntN.{ℤ, pos, negsuc}
+use Rattle.format.specs.Bytes.{le, ascii, part, same}
+use Rattle.format.specs.Text.{units, lossy}
+use Rattle.format.specs.Answer.{Answer, given, refused, refuseIf, andThen, orRefuse}
+use Rattle.format.specs.Trees.{read, entered, at, fault}
+use Rattle.format.specs.Values.{Value, list, flag, nameOf, putNamed, putUnnamed, valueAt, slotsOf, elements, field, mapOption, slotValue, asLevel, bind}
+use Rattle.format.specs.Numbers.{unsigned, signed, below32, float, magnitude}
+use Rattle.format.specs.declared.Attributes.{Attributes}
+use Rattle.format.specs.Attributes.{attributes, badShape, badBits, uncompressed}
+use Rattle.format.specs.Loops.{loopParams, orZero, childLevels}
+use Rattle.format.specs.Calibration.{zStep}
+use Rattle.format.specs.Frames.{seqIndex, samplePlace}
+use Rattle.format.specs.Channels.{channelOf}
+use Rattle.format.specs.declared.Channel.{Channel}
+use Rattle.format.specs.declared.Entry.{Entry}
+use Rattle.format.specs.declared.Axis.the-variants.{T, Z, P}
+use Rattle.format.specs.declared.Loop.{Loop}
+
+-- ---- what the rows are about
+
+abbrev pub timesThree : Loop
+timesThree = record { axis = T; count = 3 }
+
+abbrev pub scenesFour : Loop
+scenesFour = record { axis = P; count = 4 }
+
+-- width 2, three components, 16 bits, and the row bytes
+abbrev pub shaped : ℕ → Attributes
+shaped row = record { width = 2; stride = row; height = 2; components = 3; bits = 16 }
+
+-- `n` as `k` bytes, the lowest first
+abbrev bytesOf : ℕ → ℕ → List ℕ
+bytesOf zero n = []
+bytesOf (suc k) n = n % 256 ∷ bytesOf k (n / 256)
+
+abbrev wide : List ℕ → List ℕ
+wide [] = 0 ∷ 0 ∷ []
+wide (c ∷ cs) = c ∷ 0 ∷ wide cs
+
+-- a record of type k, with a name in ASCII, and its value
+abbrev rec : ℕ → List ℕ → List ℕ → List ℕ
+rec k name v = k ∷ suc (length name) ∷ wide name ++ v
+
+-- a level of n records
+abbrev levelOf : ℕ → List ℕ → List ℕ → List ℕ
+levelOf n name kids =
+    let head = 11 ∷ suc (length name) ∷ wide name ++ bytesOf 4 n in
+    head ++ bytesOf 8 (length head + 8 + length kids) ++ kids ++ eights n
+  where
+    eights : ℕ → List ℕ
+    eights zero = []
+    eights (suc n) = 0 ∷ 0 ∷ 0 ∷ 0 ∷ 0 ∷ 0 ∷ 0 ∷ 0 ∷ eights n
+
+abbrev u32 : String → ℕ → List ℕ
+unfolding ascii
+u32 name n = rec 3 (ascii name) (bytesOf 4 n)
+
+abbrev f64 : String → ℕ → List ℕ
+unfolding ascii
+f64 name bits = rec 6 (ascii name) (bytesOf 8 bits)
+
+-- attributes of `shaped row`, with these bits of the double eCompression
+unfoldable pub attributesData : ℕ → ℕ → List ℕ
+unfolding ascii
+attributesData row bits =
+    levelOf 6 (ascii "SLxImageAttributes")
+    (u32 "uiWidth" 2 ++ u32 "uiWidthBytes" row ++ u32 "uiHeight" 2 ++ u32 "uiComp" 3 ++ u32 "uiBpcInMemory" 16 ++ f64 "eCompression" bits)
+
+abbrev pub nameUnitsOf : Entry → ℕ
+nameUnitsOf e = e .units
+
+unfoldable pub attributesOf : ℕ → ℕ → Answer Attributes
+attributesOf row bits = let d = attributesData row bits in attributes d (read d 0 .entries)
+
+-- an experiment whose only level is of type 4, with this uiCount, dZHigh 10 and dZLow -10
+unfoldable pub stackData : ℕ → List ℕ
+unfolding ascii
+stackData n =
+    levelOf 2 (ascii "SLxExperiment")
+    (u32 "eType" 4 ++ levelOf 3 (ascii "uLoopPars") (u32 "uiCount" n ++ f64 "dZHigh" 0x4024000000000000 ++ f64 "dZLow" 0xC024000000000000))
+
+unfoldable pub stepOf : ℕ → Option Float
+stepOf n = let d = stackData n in zStep 64 d (read d 0 .entries) 0
+
+-- a plane of this colour
+unfoldable pub planeData : ℕ → List ℕ
+unfolding ascii
+planeData n = levelOf 1 (ascii "a") (u32 "uiColor" n)
+
+unfoldable pub planeOf : ℕ → Channel
+planeOf n = let d = planeData n in channelOf d (read d 0 .entries) 0
+
+unfoldable pub u32Record : List ℕ
+u32Record = 0x03 ∷ 0x02 ∷ 0x61 ∷ 0x00 ∷ 0x00 ∷ 0x00 ∷ 0x05 ∷ 0x00 ∷ 0x00 ∷ 0x00 ∷ []
+
+-- 0B 00 01 00 00 00, u64 length, 01 00 01, eight zeros
+unfoldable pub oneTrue : ℕ → List ℕ
+oneTrue n = 0x0B ∷ 0x00 ∷ 0x01 ∷ 0x00 ∷ 0x00 ∷ 0x00 ∷ n ∷ 0 ∷ 0 ∷ 0 ∷ 0 ∷ 0 ∷ 0 ∷ 0 ∷ 0x01 ∷ 0x00 ∷ 0x01 ∷ 0 ∷ 0 ∷ 0 ∷ 0 ∷ 0 ∷ 0 ∷ 0 ∷ 0 ∷ []
+
+-- ---- the rows
+
+pub record Starred : Type 0 where
+  pub seq-times-first : seqIndex (timesThree ∷ scenesFour ∷ []) 2 1 0 ≡ 6
+  pub seq-scenes-first : seqIndex (scenesFour ∷ timesThree ∷ []) 2 1 0 ≡ 7
+  pub place : samplePlace (shaped 14) 0 2 1 1 ≡ 32
+  pub row-12 : attributesOf 12 0x4000000000000000 ≡ given (shaped 12)
+  pub row-11 : attributesOf 11 0x4000000000000000 ≡ refused 14
+  pub record-u32 : read u32Record 100 ≡ entered (record { kind = 3; name = 102; units = 1; value = 106; size = 4; parent = 0 }) (at 10)
+  pub record-cut : read (take 9 u32Record) 100 .stop ≡ fault 6
+  pub level-17 : valueAt (oneTrue 17) (read (oneTrue 17) 0 .entries) 0 ≡ list (1 ∷ [])
+  pub level-17-one : valueAt (oneTrue 17) (read (oneTrue 17) 0 .entries) 1 ≡ flag true
+  pub level-17-unnamed : map nameUnitsOf (read (oneTrue 17) 0 .entries) ≡ 0 ∷ 0 ∷ []
+  pub level-13 : read (oneTrue 13) 0 .stop ≡ fault 10
+  pub colour : planeOf 0x00332211 ≡ record { named = 0; name = 0; units = 0; colored = 1; red = 0x11; green = 0x22; blue = 0x33 }
+  pub compression-2·9 : attributesOf 12 0x4007333333333333 ≡ given (shaped 12)
+  pub compression-1·9 : attributesOf 12 0x3FFE666666666666 ≡ refused 12
+  pub step-11 : stepOf 11 ≡ some (ofBits binary64 0x4000000000000000)
+  pub step-1 : stepOf 1 ≡ none
+
+pub starred : Starred
+unfolding attributesOf stepOf planeOf attributesData stackData planeData u32Record oneTrue seqIndex attributes read channelOf zStep valueAt field le units lossy badShape badBits uncompressed asLevel bind unsigned signed below32 refuseIf andThen orRefuse float slotValue slotsOf nameOf putNamed same toSigned ofBits putUnnamed elements loopParams orZero div magnitude sub ofInt childLevels
+starred = record {
+  seq-times-first = refl;
+  seq-scenes-first = refl;
+  place = refl;
+  row-12 = refl;
+  row-11 = refl;
+  record-u32 = refl;
+  record-cut = refl;
+  level-17 = refl;
+  level-17-one = refl;
+  level-17-unnamed = refl;
+  level-13 = refl;
+  colour = refl;
+  compression-2·9 = refl;
+  compression-1·9 = refl;
+  step-11 = refl;
+  step-1 = refl;
+}

@@ -1,0 +1,74 @@
+-- "Calibration and channels": ImageMetadataSeqLV|0!, SLxPictureMetadata, sPicturePlanes, level sPlaneNew, else sPlane.
+use Prim.Native.Nat.{ℕ, suc, _/_, _%_, _+_}
+use mathlib.Core.Bool.{cond}
+use mathlib.Core.Option.{Option, none, some}
+use mathlib.Core.List.{List, [], _∷_, _++_}
+use lib.ListN.{take, replicate}
+use lib.Dec.{eqb}
+use Rattle.format.specs.Bytes.{ascii}
+use Rattle.format.specs.Values.{Value, flag, whole, double, text, bytes, level, list, Slot, field, fieldIn, slotsOf, slotValue, asLevel, bind}
+use Rattle.format.specs.Numbers.{unsigned, below32}
+use Rattle.format.specs.declared.Entry.{Entry}
+use Rattle.format.specs.declared.Channel.{Channel}
+
+-- "empty ones"
+unfoldable pub emptyChannel : Channel
+emptyChannel = record { named = 0; name = 0; units = 0; colored = 0; red = 0; green = 0; blue = 0 }
+
+-- "sDescription (state 1, place, units; all 0 if absent or empty)"
+unfoldable pub withText : Option Value → (ℕ → ℕ → ℕ → Channel) → Channel
+withText none k = k 0 0 0
+withText (some (flag b)) k = k 0 0 0
+withText (some (whole z)) k = k 0 0 0
+withText (some (double b)) k = k 0 0 0
+withText (some (text i n)) k = cond (eqb n 0) (k 0 0 0) (k 1 i n)
+withText (some (bytes i n)) k = k 0 0 0
+withText (some (level i)) k = k 0 0 0
+withText (some (list l)) k = k 0 0 0
+
+-- "uiColor (state 1, low byte red, then green, blue; all 0 if absent or over u32)"
+unfoldable pub withColor : Option ℕ → ℕ → ℕ → ℕ → Channel
+withColor none s i n = record { named = s; name = i; units = n; colored = 0; red = 0; green = 0; blue = 0 }
+withColor (some v) s i n =
+    record { named = s; name = i; units = n; colored = 1; red = v % 256; green = v / 256 % 256; blue = v / 65536 % 256 }
+
+-- the record of the plane whose level is the entry i
+unfoldable pub channelOf : List ℕ → List Entry → ℕ → Channel
+unfolding withText withColor ascii
+channelOf s es i =
+    withText (fieldIn s es i (ascii "sDescription")) (withColor (below32 (bind (fieldIn s es i (ascii "uiColor")) unsigned)))
+
+unfoldable pub addChannel : List ℕ → List Entry → Option ℕ → List Channel → List Channel
+addChannel s es none r = r
+addChannel s es (some i) r = channelOf s es i ∷ r
+
+-- "one record per child level"
+unfoldable pub channelsIn : List ℕ → List Entry → List Slot → List Channel
+unfolding addChannel
+channelsIn s es [] = []
+channelsIn s es (x ∷ xs) = addChannel s es (asLevel (some (slotValue s es x))) (channelsIn s es xs)
+
+unfoldable pub firstLevel : Option ℕ → Option ℕ → Option ℕ
+firstLevel none b = b
+firstLevel (some a) b = some a
+
+unfoldable pub planesOf : List ℕ → List Entry → Option ℕ → List Channel
+unfolding channelsIn
+planesOf s es none = []
+planesOf s es (some i) = channelsIn s es (slotsOf s es (suc i))
+
+-- "SLxPictureMetadata, sPicturePlanes, level sPlaneNew, else sPlane": the level whose children are the planes
+unfoldable pub planesLevel : List ℕ → List Entry → Option ℕ
+unfolding firstLevel ascii
+planesLevel s es =
+    bind (asLevel (field s es 0 (ascii "SLxPictureMetadata"))) λ i.
+    bind (asLevel (fieldIn s es i (ascii "sPicturePlanes"))) λ j.
+    firstLevel (asLevel (fieldIn s es j (ascii "sPlaneNew"))) (asLevel (fieldIn s es j (ascii "sPlane")))
+
+unfoldable pub planeRecords : List ℕ → List Entry → List Channel
+unfolding planesOf
+planeRecords s es = planesOf s es (planesLevel s es)
+
+-- "Cut or padded with empty ones": n records
+unfoldable pub fitted : ℕ → List Channel → List Channel
+fitted n cs = take n (cs ++ replicate n emptyChannel)

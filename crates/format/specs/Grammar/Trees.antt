@@ -1,0 +1,134 @@
+-- "The grammar": trees, as rules. d is a tree's data, and `base` the file position of its first byte.
+use Prim.Native.Nat.{ℕ, suc, _+_, _-_, _*_, _≤_, _<_}
+use mathlib.Core.Path.{_≡_}
+use mathlib.Core.List.{List, [], _∷_, _++_}
+use lib.ListN.{length, getD}
+use Rattle.format.specs.Bytes.{le, part}
+use Rattle.format.specs.declared.Range.{Range}
+use Rattle.format.specs.Trees.{entryOf, mostItems, mostDepth, packedType}
+use Rattle.format.specs.Values.{level}
+use Rattle.format.specs.declared.Entry.{Entry}
+
+-- where the value of the record at i begins: behind its type, its name's length and its name
+abbrev pub valueStart : List ℕ → ℕ → ℕ
+valueStart d i = i + 2 + 2 * getD d (i + 1) 0
+
+-- a record of type k begins at i, and its name ends in a level that ends at e
+pub record Head (d : List ℕ) (i e k : ℕ) : Type 0 where
+  pub kind : getD d i 0 ≡ k
+  pub name-within : valueStart d i ≤ e
+
+-- bool, i32, u32, i64, u64, f64 and pointer, and how many bytes they have
+pub data Fixed : ℕ → ℕ → Type 0 where
+  bool : Fixed 1 1
+  i32 : Fixed 2 4
+  u32 : Fixed 3 4
+  i64 : Fixed 4 8
+  u64 : Fixed 5 8
+  f64 : Fixed 6 8
+  pointer : Fixed 7 8
+
+-- the n units from v on are not 0
+abbrev pub Units : List ℕ → ℕ → ℕ → Type 0
+Units d v n = (j : ℕ) → j < n → le 2 d (v + 2 * j) ≡ 0 → ⊥
+
+-- A value of type k that is no level stands at v, in a level that ends at e: `Plain d e v k from len p` says that the value is the len bytes
+-- from `from` on, and that p is the place after it.
+pub data Plain (d : List ℕ) (e v : ℕ) : ℕ → ℕ → ℕ → ℕ → Type 0 where
+  fixed : {k n : ℕ} → Fixed k n → v + n ≤ e → Plain d e v k v n (v + n)
+  text-ended : (n : ℕ) → Units d v n → le 2 d (v + 2 * n) ≡ 0 → v + 2 * n + 2 ≤ e → Plain d e v 8 v (2 * n) (v + 2 * n + 2)
+  text-cut : (n : ℕ) → Units d v n → v + 2 * n ≤ e → e < v + 2 * n + 2 → Plain d e v 8 v (2 * n) (v + 2 * n)
+  bytes : v + 8 + le 8 d v ≤ e → Plain d e v 9 (v + 8) (le 8 d v) (v + 8 + le 8 d v)
+
+-- a level's count, where its children begin and end, and the place after it, where its record begins at i
+abbrev pub countAt : List ℕ → ℕ → ℕ
+countAt d i = le 4 d (valueStart d i)
+
+abbrev pub kidsFrom : List ℕ → ℕ → ℕ
+kidsFrom d i = valueStart d i + 12
+
+abbrev pub kidsTo : List ℕ → ℕ → ℕ
+kidsTo d i = i + le 8 d (valueStart d i + 4)
+
+abbrev pub levelTo : List ℕ → ℕ → ℕ
+levelTo d i = kidsTo d i + 8 * countAt d i
+
+-- a level's record begins at i, in a level that ends at e, and its children lie in that level
+pub record Level (d : List ℕ) (i e : ℕ) : Type 0 where
+  pub head : Head d i e 11
+  pub header-within : kidsFrom d i ≤ e
+  pub items-most : countAt d i ≤ mostItems
+  pub length-least : kidsFrom d i ≤ kidsTo d i
+  pub kids-within : kidsTo d i ≤ e
+
+-- `Records d base left parent count used i e es p`: from i on, in a level that ends at e, stand at most `count` records, with the entries
+-- es and the place p after them. `used` entries come before these, `parent` is their level's entry plus one, and `left` is how many levels
+-- may stand here one in another.
+pub data Records (d : List ℕ) (base : ℕ) : ℕ → ℕ → ℕ → ℕ → ℕ → ℕ → List Entry → ℕ → Type 0 where
+  counted : {left parent used i e : ℕ} → Records d base left parent 0 used i e [] i
+  quiet : {left parent count used i e : ℕ} → e < i + 2 → Records d base left parent (suc count) used i e [] i
+  plain : {left parent count used i e k from len p q : ℕ} {es : List Entry}
+      → Head d i e k → Plain d e (valueStart d i) k from len p
+      → Records d base left parent count (used + 1) p e es q
+      → Records d base left parent (suc count) used i e (entryOf d base parent i from len ∷ es) q
+  nested : {left parent count used i e p q : ℕ} {ks es : List Entry}
+      → Level d i e
+      → Records d base left (suc used) (countAt d i) (suc used) (kidsFrom d i) (kidsTo d i) ks p
+      → levelTo d i ≤ e
+      → Records d base (suc left) parent count (used + suc (length ks)) (levelTo d i) e es q
+      → Records d base (suc left) parent (suc count) used i e (entryOf d base parent i (kidsFrom d i) (kidsTo d i - kidsFrom d i) ∷ ks ++ es) q
+
+-- the same, where a packed record is reached before any other fault
+pub data Reaches (d : List ℕ) (base : ℕ) : ℕ → ℕ → ℕ → ℕ → ℕ → ℕ → Type 0 where
+  here : {left parent count used i e : ℕ} → i + 2 ≤ e → getD d i 0 ≡ packedType → Reaches d base left parent (suc count) used i e
+  behind-plain : {left parent count used i e k from len p : ℕ}
+      → Head d i e k → Plain d e (valueStart d i) k from len p
+      → Reaches d base left parent count (used + 1) p e
+      → Reaches d base left parent (suc count) used i e
+  behind-level : {left parent count used i e p : ℕ} {ks : List Entry}
+      → Level d i e
+      → Records d base left (suc used) (countAt d i) (suc used) (kidsFrom d i) (kidsTo d i) ks p
+      → levelTo d i ≤ e
+      → Reaches d base (suc left) parent count (used + suc (length ks)) (levelTo d i) e
+      → Reaches d base (suc left) parent (suc count) used i e
+  inside : {left parent count used i e : ℕ}
+      → Level d i e
+      → Reaches d base left (suc used) (countAt d i) (suc used) (kidsFrom d i) (kidsTo d i)
+      → Reaches d base (suc left) parent (suc count) used i e
+
+-- bool, i32, u32, i64, u64, f64, pointer, text, bytes, level
+pub data Kind : ℕ → Type 0 where
+  of-value : {k : ℕ} → 1 ≤ k → k ≤ 9 → Kind k
+  of-level : Kind 11
+
+-- the same, where the type and the name of n records pass, at every depth, before the end or a fault
+pub data Passes (d : List ℕ) (base : ℕ) : ℕ → ℕ → ℕ → ℕ → ℕ → ℕ → ℕ → Type 0 where
+  none-yet : {left parent count used i e : ℕ} → Passes d base left parent count used i e 0
+  this : {left parent count used i e k : ℕ} → Head d i e k → Kind k → Passes d base left parent (suc count) used i e 1
+  this-and-more : {left parent count used i e k from len p n : ℕ}
+      → Head d i e k → Plain d e (valueStart d i) k from len p
+      → Passes d base left parent count (used + 1) p e n
+      → Passes d base left parent (suc count) used i e (suc n)
+  this-and-inside : {left parent count used i e n : ℕ}
+      → Level d i e
+      → Passes d base left (suc used) (countAt d i) (suc used) (kidsFrom d i) (kidsTo d i) n
+      → Passes d base (suc left) parent (suc count) used i e (suc n)
+  level-and-more : {left parent count used i e p n : ℕ} {ks : List Entry}
+      → Level d i e
+      → Records d base left (suc used) (countAt d i) (suc used) (kidsFrom d i) (kidsTo d i) ks p
+      → levelTo d i ≤ e
+      → Passes d base (suc left) parent count (used + suc (length ks)) (levelTo d i) e n
+      → Passes d base (suc left) parent (suc count) used i e (suc (length ks + n))
+
+-- the part r of s is a tree with these entries: one record at depth 0
+pub record Tree (s : List ℕ) (r : Range) (es : List Entry) : Type 0 where
+  pub place-after : ℕ
+  pub record-at-0 : Records (part s (r .start) (r .len)) (r .start) mostDepth 0 1 0 0 (length (part s (r .start) (r .len))) es place-after
+
+-- the tree in the part r of s ends at a packed record
+abbrev pub PackedTree : List ℕ → Range → Type 0
+PackedTree s r = Reaches (part s (r .start) (r .len)) (r .start) mostDepth 0 1 0 0 (length (part s (r .start) (r .len)))
+
+-- the type and the name of n records of the tree in the part r of s pass, before its end or first fault
+abbrev pub PassedIn : List ℕ → Range → ℕ → Type 0
+PassedIn s r n = Passes (part s (r .start) (r .len)) (r .start) mostDepth 0 1 0 0 (length (part s (r .start) (r .len))) n

@@ -1,0 +1,26 @@
+-- Document 01 as definitions, in its order. Where a heading has more than one idea, each has a file.
+-- Ground: "Integers in files and lent bytes are little-endian", and answers that may be refusals
+pub mod Bytes
+pub mod Answer
+-- "Why a file is turned away"
+pub mod Refusals
+-- "Map and chunks"
+pub mod Chunks
+pub mod Map
+-- "Trees": text, records and their entries, what the entries mean
+pub mod Text
+pub mod Trees
+pub mod Values
+-- "Attributes": the readings of numbers, the attributes
+pub mod Numbers
+pub mod Attributes
+-- "Loops": the walk, the frame numbers
+pub mod Loops
+pub mod Frames
+-- "Calibration and channels"
+pub mod Calibration
+pub mod Channels
+-- "The calls": the summary that they share, and each call's answer from its arguments alone
+pub mod Summary
+pub mod Calls
+pub mod Grammar

@@ -1,0 +1,101 @@
+-- "The calls": the summary. "The summary keeps for each loop its axis and its count (at most three loops, in order), besides width, row bytes,
+-- height, components, bits per sample, map data position and length, calibration state, x and y in f32, z class and z in f32."
+use Prim.Native.Nat.{ℕ, _+_}
+use mathlib.Core.Bool.{Bool, true, false, _||_}
+use mathlib.Core.List.{List, [], _∷_, _++_}
+use lib.ListN.{length, take, replicate}
+use lib.Dec.{ltb, eqb}
+use Rattle.format.specs.Bytes.{most64}
+use Rattle.format.specs.Chunks.{dataIn}
+use Rattle.format.specs.Numbers.{zeroFloat}
+use Rattle.format.specs.Attributes.{badShape, badBits, planeBytes}
+use Rattle.format.specs.Loops.{mostCount, hasAxis}
+use Rattle.format.specs.declared.Range.{Range}
+use Rattle.format.specs.declared.Attributes.{Attributes}
+use Rattle.format.specs.declared.Calibration.{Calibration}
+use Rattle.format.specs.declared.Axis.the-variants.{T}
+use Rattle.format.specs.declared.Loop.{Loop}
+use Rattle.format.specs.declared.Summary.{Summary}
+
+-- ---- made
+
+abbrev pub noLoop : Loop
+noLoop = record { axis = T; count = 0 }
+
+-- at most three loops, in three places
+abbrev pub inThree : List Loop → List Loop
+inThree ls = take 3 (ls ++ replicate 3 noLoop)
+
+-- the summary of a map's data, attributes, loops and calibration
+unfoldable pub summaryOf : Range → Attributes → List Loop → Calibration → Summary
+summaryOf m a ls c =
+    record {
+      loops = inThree ls;
+      depth = length ls;
+      width = a .width;
+      stride = a .stride;
+      height = a .height;
+      components = a .components;
+      bits = a .bits;
+      map = m;
+      calibration = c .state;
+      x = c .size;
+      y = c .size;
+      class = c .class;
+      z = c .z;
+    }
+
+-- "summary (all zero if refused)"
+unfoldable pub zeroSummary : Summary
+zeroSummary =
+    record {
+      loops = noLoop ∷ noLoop ∷ noLoop ∷ [];
+      depth = 0;
+      width = 0;
+      stride = 0;
+      height = 0;
+      components = 0;
+      bits = 0;
+      map = record { start = 0; len = 0 };
+      calibration = 0;
+      x = zeroFloat;
+      y = zeroFloat;
+      class = 0;
+      z = zeroFloat;
+    }
+
+-- ---- taken apart
+
+abbrev pub shapeOf : Summary → Attributes
+shapeOf u =
+    record {
+      width = u .width;
+      stride = u .stride;
+      height = u .height;
+      components = u .components;
+      bits = u .bits;
+    }
+
+-- the loops that are used, outermost first
+abbrev pub loopsOf : Summary → List Loop
+loopsOf u = take (u .depth) (u .loops)
+
+-- the map's data
+abbrev pub mapOf : List ℕ → Summary → List ℕ
+mapOf s u = dataIn s (u .map)
+
+-- ---- 20
+
+-- "a loop count is not 1 to 1,000,000", "an axis repeats"
+unfoldable pub badLoops : List Loop → Bool
+unfolding hasAxis
+badLoops [] = false
+badLoops (l ∷ ls) = eqb (l .count) 0 || ltb mostCount (l .count) || hasAxis (l .axis) ls || badLoops ls
+
+-- "20: the shape rules fail, bits are not 8, 16 or 32, a loop count is not 1 to 1,000,000, loops are over three, an axis repeats, or the map range
+-- leaves the file." The shape rules are those of 14, the plane product's too.
+unfoldable pub badSummary : List ℕ → Summary → Bool
+unfolding badLoops badShape badBits
+badSummary s u =
+    badBits (u .bits) || badShape (shapeOf u) || ltb most64 (planeBytes (shapeOf u)) || ltb 3 (u .depth) || badLoops (loopsOf u)
+    || ltb (length s) (u .map .start + u .map .len)
