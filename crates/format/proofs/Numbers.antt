@@ -1,8 +1,8 @@
 -- The readings of a double by its value: narrowing sees only the value, an unsigned reading the sign, and finite is below the infinity. Assumes nothing.
-use mathlib.Core.Path.{_≡_, refl, sym, ap, _∙_}
-use mathlib.Core.Bool.{Bool, true, false, cond, _||_, true≢false, false≢true}
-use mathlib.Core.Option.{Option, none, some}
-use Prim.Native.Nat.{ℕ, _+_, _*_, _≤_, _<_}
+use mathlib.Core.Path.{_≡_, refl, ap, _∙_}
+use mathlib.Core.Bool.{Bool, true, false, cond, true≢false, false≢true}
+use mathlib.Core.Option.{none, some}
+use Prim.Native.Nat.{ℕ, _+_, _*_, _<_}
 use native.Mathlib.Nat.{mul-pos, zero-mul}
 use native.Mathlib.Omega.{arith}
 use borrow.Author.Tests.{le-ltb, lt-ltb}
@@ -10,7 +10,7 @@ use lib.Ieee.{Float, nan, inf, fin, binary32, up, down, round, isNan, lt, toUnsi
 use lib.Ieee.Fits.{down-pos}
 use lib.Ieee.Exact.{HasValue}
 use lib.Ieee.Scale.{round-same}
-use Rattle.format.specs.Numbers.{zeroFloat, unsignedFloat, narrow, positive, finite}
+use Rattle.format.specs.Numbers.{unsignedFloat, narrow, positive, finite}
 
 pub narrow-is : (v : Float) (s : Bool) (a c : ℕ) → 0 < c → HasValue v s a c → narrow v ≡ round binary32 s a c
 unfolding narrow

@@ -3,17 +3,16 @@ use mathlib.Core.Path.{_≡_, refl, sym, ap, _∙_, subst}
 use mathlib.Core.Logic.{_⊎_, inl, inr}
 use mathlib.Core.Bool.{Bool, true, false, not, cond}
 use Prim.Native.Nat.{ℕ, zero, suc, _+_, _-_, _*_, _/_, _%_, _^_, _≤_, _<_, compare}
-use native.Mathlib.Nat.{le-trans, le-of-eq, lt-of-lt-of-le, lt-of-le-of-lt, le-antisymm, mul-one, mul-assoc, mul-comm, mul-right-comm, mul-pos, mul-le-mul-left, mul-le-mul-right, mul-lt-mul-of-pos-right, le-div-iff-mul-le, div-lt-iff-lt-mul, one-mul, mul-left-comm, zero-add}
+use native.Mathlib.Nat.{le-trans, le-of-eq, lt-of-lt-of-le, lt-of-le-of-lt, mul-one, mul-assoc, mul-comm, mul-right-comm, mul-pos, mul-le-mul-left, mul-le-mul-right, mul-lt-mul-of-pos-right, le-div-iff-mul-le, div-lt-iff-lt-mul, one-mul, mul-left-comm, zero-add}
 use native.Mathlib.Omega.{arith}
-use lib.Dec.{T, ltb, eqb, ltb→lt, nltb→le, eqb→eq, not-T, lit≤, lit<}
+use lib.Dec.{T, ltb, ltb→lt, nltb→le, lit≤, lit<}
 use lib.Arith.{le-zero}
 use borrow.Author.Tests.{ne-eqb}
 use lib.Pow.{pow-add, pow-pos, pow-mono, pow-lt, shl-lt}
-use lib.Ieee.{Float, nan, inf, fin, Format, binary32, binary64, up, down, size, odd, units, round, ofFields, ofBits}
-use lib.Ieee.Fits.{down-pos, round-is, nearest-le}
+use lib.Ieee.{Float, nan, inf, binary32, binary64, size, units, round, ofFields, ofBits}
+use lib.Ieee.Fits.{round-is, nearest-le}
 use lib.Ieee.Digits.{size-le}
-use lib.Ieee.Bits.{cond-no}
-use lib.Ieee.Exact.{HasValue, odd-sign}
+use lib.Ieee.Exact.{HasValue}
 use lib.Ieee.Nearest.{closest, closest-same, closest-mono, nearest-ge}
 use lib.Ieee.Scale.{round-same}
 use Rattle.format.specs.Numbers.{narrow}

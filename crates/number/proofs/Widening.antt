@@ -1,12 +1,12 @@
 -- A whole number to the nearest f64 of either sign, as a pattern. Assumes nothing.
 use mathlib.Core.Path.{_≡_, refl, sym, ap, _∙_, subst}
-use mathlib.Core.Logic.{_⊎_, inl, inr}
+use mathlib.Core.Logic.{inr}
 use mathlib.Core.Bool.{Bool, true, false, cond}
-use Prim.Native.Nat.{ℕ, zero, suc, _+_, _-_, _*_, _/_, _%_, _^_, _≤_, _<_, compare}
+use Prim.Native.Nat.{ℕ, suc, _+_, _-_, _*_, _/_, _%_, _^_, _≤_, _<_, compare}
 use native.Mathlib.Nat.{le-trans, le-of-eq, le-of-lt, lt-of-lt-of-le, lt-of-le-of-lt, mul-one, one-mul, mul-assoc, mul-pos, mul-le-mul-right, le-div-iff-mul-le, div-lt-iff-lt-mul, div-one, mod-one}
 use native.Mathlib.Omega.{arith}
 use lib.Dec.{lit<}
-use lib.Pow.{pow-add, pow-pos, pow-mono, pow-lt, shl-lt, shl-exact}
+use lib.Pow.{pow-add, pow-pos, pow-lt, shl-lt, shl-exact}
 use lib.Ieee.{binary64, size, nearest, units, round, ofBits}
 use lib.Ieee.Fits.{round-is, nearest-le}
 use lib.Ieee.Nearest.{closest, closest-same, nearest-ge}

@@ -4,9 +4,9 @@ use mathlib.Core.Bool.{true, false}
 use mathlib.Core.Option.{some}
 use Prim.Native.Nat.{ℕ, _^_, _-_, min}
 use borrow.Author.Tests.{le-leb, lt-leb}
-use lib.IntN.{ℤ, pos, negℤ}
+use lib.IntN.{pos, negℤ}
 use lib.Ieee.{toSigned}
-use Rattle.number.proofs.Cutting.{capped-to, signed-nan, signed-is}
+use Rattle.number.proofs.Cutting.{signed-nan, signed-is}
 use borrow.Author.Needs.{needs}
 use Rattle.number.proofs.signed.Statement.{statement}
 use Rattle.number.proofs.signed.Tie as tie

@@ -1,10 +1,6 @@
 -- `span_step`: more than one, or not.
-use mathlib.Core.Path.{sym, ap, _∙_}
-use mathlib.Core.Bool.{Bool, cond}
-use mathlib.Core.Option.{none, some}
-use lib.Ieee.{Float, ofBits}
+use lib.Ieee.{ofBits}
 use borrow.Author.Tests.{lt-ltb, le-ltb}
-use Rattle.format.specs.Numbers as Numbers
 use Rattle.format.specs.Calibration.{spanStep}
 use borrow.Author.Needs.{needs}
 use Rattle.number.proofs.span_step.Statement.{statement}

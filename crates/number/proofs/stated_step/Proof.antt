@@ -2,7 +2,7 @@
 use mathlib.Core.Path.{sym, ap, _∙_}
 use mathlib.Core.Bool.{Bool, cond}
 use mathlib.Core.Option.{none, some}
-use lib.Ieee.{Float, ofBits}
+use lib.Ieee.{ofBits}
 use Rattle.format.specs.Numbers as Numbers
 use Rattle.format.specs.Calibration.{statedStep}
 use borrow.Author.Needs.{needs}
