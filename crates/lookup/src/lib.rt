@@ -3,6 +3,8 @@
 // looks at that run alone.
 
 pub mod entry;
+pub mod named;
+pub mod value;
 
 // An entry that a search found.
 pub enum Found {
