@@ -27,7 +27,7 @@ use crate::Found;
 use crate::entry::entry_at;
 
 // The type of a level's entry.
-const LEVEL: u64 = 11;
+pub const LEVEL: u64 = 11;
 
 // Whether a level is a list: it has children, and none has a name.
 pub fn is_list(table: &[u8], used: usize, parent: usize) -> bool
