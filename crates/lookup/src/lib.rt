@@ -5,6 +5,7 @@
 pub mod entry;
 pub mod named;
 pub mod value;
+pub mod level;
 pub mod list;
 
 // An entry that a search found.
