@@ -1,7 +1,7 @@
 -- The places of a level, and what a walk over child levels has still before it.
-use Prim.Native.Nat.{ℕ, zero, suc, _+_, _-_, _≤_, _<_}
+use Prim.Native.Nat.{ℕ, _≤_, _<_}
 use mathlib.Core.Path.{_≡_}
-use mathlib.Core.Bool.{Bool, true, false, cond, not, _&&_}
+use mathlib.Core.Bool.{Bool, true, false, _&&_}
 use mathlib.Core.Option.{Option, none, some}
 use mathlib.Core.List.{List, [], _∷_}
 use lib.Dec.{eqb}
@@ -9,7 +9,7 @@ use lib.ListN.{drop, getElem?}
 use Rattle.format.specs.Values.{Slot, named, unnamed, nameOf, slotsOf, find}
 use Rattle.format.specs.Loops.{levelsOf, levelsIn}
 use Rattle.format.specs.declared.Entry.{Entry}
-use Rattle.lookup.specs.Table.{firsts, lastNamed, Run}
+use Rattle.lookup.specs.Table.{firsts, between, lastNamed, Run}
 use Rattle.lookup.specs.Values.{unnamedIn, elementsOf}
 use Rattle.lookup.specs.declared.Turn.{Turn}
 use Rattle.lookup.specs.declared.Turn.the-variants as turn
@@ -26,15 +26,9 @@ isNone (some i) = false
 unfoldable pub leads : List ℕ → (ℕ → Entry) → ℕ → ℕ → Bool
 leads s e p i = eqb (e i .parent) p && isNone (lastNamed s e p (nameOf s (e i)) i)
 
-unfoldable pub leadsFrom : List ℕ → (ℕ → Entry) → ℕ → ℕ → ℕ → List ℕ
-unfolding leads
-leadsFrom s e p i zero = []
-leadsFrom s e p i (suc n) = cond (leads s e p i) (i ∷ leadsFrom s e p (suc i) n) (leadsFrom s e p (suc i) n)
-
 -- the places from entry i on, of n entries
 unfoldable pub leadsIn : List ℕ → (ℕ → Entry) → ℕ → ℕ → ℕ → List ℕ
-unfolding leadsFrom
-leadsIn s e p i n = leadsFrom s e p i (n - i)
+leadsIn s e p i n = between (leads s e p) i n
 
 abbrev pub namedOr : List ℕ → Option ℕ → Slot
 namedOr n none = unnamed []

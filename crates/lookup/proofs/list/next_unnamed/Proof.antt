@@ -27,7 +27,7 @@ unfolding found
 returns c =
     let v = c .before .before .before .loop .inv in
     let h = rw (c .before .entry-at .ensures) at (c .if1 .taken) in
-    (sym (ap headOf (v .1 ∙ kids-none _ _ _ _ (omega arith) (λ k a b. c .before .before .before .before .before .pre .0 .order .nested _ _ k (v .0) a b h))), tt)
+    (sym (ap headOf (v .1 ∙ kids-none _ _ _ _ (λ k a b. c .before .before .before .before .before .pre .0 .order .nested _ _ k (v .0) a b h))), tt)
 
 returns-2 : tie.Need-returns-2 Inv-loop μ-loop
 unfolding found
