@@ -135,11 +135,14 @@ spread-value levels s e n j l = rw (getElem-firsts n e j l) (go (eqb (e j .kind)
   where
     val : ℕ → Value
     val k = valueFrom levels s (firsts n e) k (getElem? (firsts n e) k)
+
     slots : List Slot
     slots = slotsOf s (firsts n e) (suc j)
+
     deep : (b : Bool) → spread (cond b (list (elements val (unnamedIn slots))) (level j)) j ≡ firstOnes b (elements val (unnamedIn slots)) j
     deep true = refl
     deep false = refl
+
     go : (b : Bool) → spread (valueIf b (λ _. collapse val j slots) (leaf s (e j))) j ≡ firstOnes (b && onlyUnnamed slots) (elements val (unnamedIn slots)) j
     go false = spread-leaf s (e j) j
     go true = rw collapse-is (deep (onlyUnnamed slots))
@@ -230,6 +233,7 @@ elements-some (suc d) s e n p o h =
     first : (b : Bool) (l : List ℕ) (j : ℕ) → (b ≡ true → l ≡ [] → ⊥) → firstOnes b l j ≡ [] → ⊥
     first true l j f h = f refl h
     first false l j f h = let z : _≡_ {A = ℕ} 0 1 = cc in omega arith
+
     go : ((j : ℕ) → onlyUnnamed (slotsOf s (firsts n e) (suc j)) ≡ true → elementsFrom d s (firsts n e) (suc j) ≡ [] → ⊥)
         → (l : List ℕ) → (l ≡ [] → ⊥) → fromFirst (λ j. firstOnes (listAt s e n j) (elementsFrom d s (firsts n e) (suc j)) j) l ≡ [] → ⊥
     go ih [] o h = o refl
@@ -305,6 +309,7 @@ after-of (suc d) s e n p xs k ys h =
   where
     f : ℕ → List ℕ
     f j = firstOnes (listAt s e n j) (elementsFrom d s (firsts n e) (suc j)) j
+
     inner : ((c : ℕ) (xs zs : List ℕ) → elementsFrom d s (firsts n e) (suc c) ≡ xs ++ k ∷ zs → After e n (suc c) k zs)
         → (c : ℕ) (js zs : List ℕ) → kids e p 0 n ≡ c ∷ js → ys ≡ zs ++ js
         → (b : Bool) → firstOnes b (elementsFrom d s (firsts n e) (suc c)) c ≡ xs ++ k ∷ zs → After e n p k ys
@@ -315,10 +320,12 @@ after-of (suc d) s e n p xs k ys h =
         let y : ys ≡ js = q ∙ ap (λ (l : List ℕ). l ++ js) (o .1) in
         let g : kids e p 0 n ≡ [] ++ k ∷ ys = cc in
         here [] g
+
     whole : ((c : ℕ) (xs zs : List ℕ) → elementsFrom d s (firsts n e) (suc c) ≡ xs ++ k ∷ zs → After e n (suc c) k zs)
         → (c : ℕ) (js : List ℕ) → kids e p 0 n ≡ c ∷ js → Split (f c) js xs k ys → After e n p k ys
     whole ih c js t (left zs a q) = inner ih c js zs t q (listAt s e n c) a
     whole ih c js t (right ws a) = here (c ∷ ws) (t ∙ ap (λ (l : List ℕ). c ∷ l) a)
+
     go : ((c : ℕ) (xs zs : List ℕ) → elementsFrom d s (firsts n e) (suc c) ≡ xs ++ k ∷ zs → After e n (suc c) k zs)
         → (l : List ℕ) → kids e p 0 n ≡ l → fromFirst f l ≡ xs ++ k ∷ ys → After e n p k ys
     go ih [] t h = nil-not xs k ys h
@@ -336,6 +343,14 @@ parent-of p e h = go (eqb (e .parent) p) refl h
     go true h k = eqb-true _ _ h
     go false h k = absurd (let z : _≡_ {A = ℕ} 0 1 = cc in omega arith)
 
+-- a kid comes after its level
+pub head-low : (e : ℕ → Entry) (n p j : ℕ) → Ordered e n → some j ≡ headOf (kids e p 0 n) → p ≤ j
+head-low e n p j o h =
+    let a = head-kids (kids e p 0 n) j h in
+    let t = kids-split e p n j [] (a .0) (a .1) in
+    let x = parent-of p (e j) (t .passes) in
+    omega (arith, o .older j (t .below), x)
+
 pub climb : (e : ℕ → Entry) (n p k : ℕ) (ys : List ℕ) → Ordered e n → After e n p k ys → Climb e n p k ys
 climb e n p k ys o (here xs h) =
     let t = kids-split e p n k xs ys h in
@@ -344,8 +359,10 @@ climb e n p k ys o (deep c js zs h a q) = go (climb e n (suc c) k zs o a)
   where
     t : Kid e p n c js
     t = kids-split e p n c [] js h
+
     low : p ≤ c
     low = let x = parent-of p (e c) (t .passes) in omega (arith, o .older c (t .below), x)
+
     go : Climb e n (suc c) k zs → Climb e n p k ys
     go (top x y) =
         let z : e k .parent - 1 ≡ c = omega (arith, x) in

@@ -7,11 +7,6 @@ ghost use Rattle.format.specs.Values.{slotsOf, find, field, bind, asLevel};
 ghost use Rattle.number.specs.Readings.{natural, integer, real};
 ghost use Rattle.lookup.specs.Table.{entriesIn, Holds, found, Within};
 ghost use Rattle.lookup.specs.Values.{fieldMeaning, FieldInside};
-
-use number::Integer;
-use number::Natural;
-use number::Real;
-
 use crate::Field;
 use crate::Found;
 use crate::entry::end_of;
@@ -21,6 +16,9 @@ use crate::value::as_i64;
 use crate::value::as_u64;
 use crate::value::level_at;
 use crate::value::value_at;
+use number::Integer;
+use number::Natural;
+use number::Real;
 
 // The entry of a name: the last child with it.
 pub fn get_entry(file: &[u8], table: &[u8], used: usize, parent: usize, name: &[u8]) -> Found
