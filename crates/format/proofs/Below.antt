@@ -16,13 +16,10 @@ use Rattle.format.specs.Bytes.{le, same, ascii}
 use Rattle.format.specs.Trees.{mostDepth}
 use Rattle.format.specs.Values.{Value, flag, whole, double, text, bytes, level, list, Slot, named, unnamed, putNamed, putUnnamed, nameOf, put, slotsFrom, slotsOf, spread, elements, collapse, leaf, twosComplement, valueIf, valueFrom, valueAt, slotValue, find, mapOption, field, asLevel, fieldIn}
 use Rattle.format.specs.Loops.{addLevel, levelsOf, levelsIn, childLevels}
+use Rattle.format.specs.Grammar.Lists.{All, over, more}
 use Rattle.format.specs.declared.Entry.{Entry}
 
 -- ---- lists and slots of which something holds
-
-pub data All (P : ℕ → Type 0) : List ℕ → Type 0 where
-  over : All P []
-  more : {i : ℕ} {is : List ℕ} → P i → All P is → All P (i ∷ is)
 
 all-append : (P : ℕ → Type 0) (is js : List ℕ) → All P is → All P js → All P (is ++ js)
 all-append P [] js a b = b
@@ -113,6 +110,14 @@ collapse-level val i j [] e = cc
 collapse-level val i j (named n k ∷ r) e = cc
 collapse-level val i j (unnamed is ∷ []) e = absurd (level≢list (sym e))
 collapse-level val i j (unnamed is ∷ x ∷ r) e = cc
+
+-- a level for which `left` levels are enough
+pub record Fine (D : ℕ → ℕ) (left i : ℕ) : Type 0 where
+  pub shallow : D i < mostDepth
+  pub enough : mostDepth ≤ left + D i
+
+pub not-deepest : {D : ℕ → ℕ} {i : ℕ} → Fine D 0 i → ⊥
+not-deepest f = omega (arith, f .shallow, f .enough)
 
 module _ (s : List ℕ) (es : List Entry) (D : ℕ → ℕ) (R : Ranked D 0 es) where
   -- an entry of the level p
@@ -275,3 +280,14 @@ module _ (s : List ℕ) (es : List Entry) (D : ℕ → ℕ) (R : Ranked D 0 es) 
           let z : valueAt s es k ≡ level i = cc in
           let (own, kind) = level-own k i (x .entry) (x .there) z in
           rw own at (at-zero k (x .entry) (x .there) .0 kind)
+
+  -- ---- levels that a walk goes down to
+
+  pub kids-fine : (m i : ℕ) → Fine D (suc m) i → All (Fine D m) (childLevels s es (fieldIn s es i (ascii "ppNextLevelEx")))
+  kids-fine m i f = all-map (Next i) (Fine D m) step _ (below-next i (ascii "ppNextLevelEx"))
+    where
+      step : (j : ℕ) → Next i j → Fine D m j
+      step j x = record { shallow = x .shallow; enough = omega (arith, x .deeper, f .enough) }
+
+  pub top-fine : (name : List ℕ) (i : ℕ) → field s es 0 name ≡ some (level i) → All (Fine D mostDepth) (i ∷ [])
+  top-fine name i e = more (record { shallow = level-shallow name i e; enough = omega arith }) over
