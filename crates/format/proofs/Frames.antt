@@ -15,7 +15,7 @@ use Rattle.format.specs.Frames.{countOf, indexOf, seqFrom, seqIndex}
 use Rattle.format.specs.Summary.{badLoops}
 use Rattle.format.specs.Grammar.Loops.{Free, Distinct, Counted}
 use Rattle.format.specs.Grammar.Loops.{nil, cons}
-use Rattle.format.specs.Grammar.Plane.{Within}
+use Rattle.format.specs.Refused.Plane.{Within}
 use Rattle.format.specs.declared.Axis.{Axis}
 use Rattle.format.specs.declared.Axis.the-variants.{T, Z, P}
 use Rattle.format.specs.declared.Loop.{Loop}
