@@ -11,7 +11,7 @@ use Rattle.format.proofs.Answers.{none≢some, refuseIf-given, andThen-
 use Rattle.format.proofs.Rules.{cond-some}
 use Rattle.format.proofs.Means.{Means}
 use Rattle.format.proofs.Numbers.{level-at, unsigned-in, signed-in}
-use Rattle.format.proofs.Stub.{bits-good, good-bits, shape-good, good-shape}
+use Rattle.format.proofs.Summaries.{bits-good, good-bits, shape-good, good-shape}
 use Rattle.format.specs.Answer.{given, orRefuse}
 use Rattle.format.specs.Bytes.{ascii}
 use Rattle.format.specs.Values.{field, fieldIn, asLevel, bind}

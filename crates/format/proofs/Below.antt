@@ -1,20 +1,19 @@
 -- The levels below an experiment level are deeper than it, so that a walk of 64 levels is never cut. Assumes nothing.
-use Prim.Native.Nat.{ℕ, zero, suc, _+_, _-_, _*_, _/_, _≤_, _<_}
-use mathlib.Core.Path.{_≡_, refl, sym, ap, _∙_, subst}
-use mathlib.Core.Bool.{Bool, true, false, cond, not, true≢false}
+use Prim.Native.Nat.{ℕ, zero, suc, _+_, _≤_, _<_}
+use mathlib.Core.Path.{_≡_, refl, sym, ap, _∙_}
+use mathlib.Core.Bool.{Bool, true, false, cond, true≢false}
 use mathlib.Core.Option.{Option, none, some}
 use mathlib.Core.List.{List, [], _∷_, _++_}
 use native.Mathlib.Omega.{arith}
 use lib.Dec.{eqb}
-use lib.IntN.{ℤ, pos, negsuc}
-use lib.ListN.{length, getElem?}
-use borrow.Author.Tests.{eqb-true, eqb-false}
+use lib.ListN.{getElem?}
+use borrow.Author.Tests.{eqb-true}
 use Rattle.format.proofs.Answers.{none≢some}
 use Rattle.format.proofs.Lookups.{as-level}
 use Rattle.format.proofs.Depths.{Ranked, nil, cons}
-use Rattle.format.specs.Bytes.{le, same, ascii}
+use Rattle.format.specs.Bytes.{same, ascii}
 use Rattle.format.specs.Trees.{mostDepth}
-use Rattle.format.specs.Values.{Value, flag, whole, double, text, bytes, level, list, Slot, named, unnamed, putNamed, putUnnamed, nameOf, put, slotsFrom, slotsOf, spread, elements, collapse, leaf, twosComplement, valueIf, valueFrom, valueAt, slotValue, find, mapOption, field, asLevel, fieldIn}
+use Rattle.format.specs.Values.{Value, flag, whole, double, text, bytes, level, list, Slot, named, unnamed, putNamed, putUnnamed, nameOf, put, slotsFrom, slotsOf, spread, elements, collapse, leaf, valueIf, valueFrom, valueAt, slotValue, find, mapOption, field, asLevel, fieldIn}
 use Rattle.format.specs.Loops.{addLevel, levelsOf, levelsIn, childLevels}
 use Rattle.format.specs.Grammar.Lists.{All, over, more}
 use Rattle.format.specs.declared.Entry.{Entry}

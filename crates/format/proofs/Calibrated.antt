@@ -1,124 +1,47 @@
--- The grammar's z step and pixel size are those that are read. Assumes nothing.
-use Prim.Native.Nat.{ℕ, zero, suc, _+_, _<_}
+-- What the grammar says of the calibration is what opening makes of it. Assumes nothing.
+use Prim.Native.Nat.{ℕ, _≤_}
 use mathlib.Core.Path.{_≡_, refl, sym, ap, _∙_, subst}
-use mathlib.Core.Bool.{Bool, true, false, cond, false≢true}
+use mathlib.Core.Bool.{Bool, true, false, cond}
 use mathlib.Core.Option.{Option, none, some}
-use mathlib.Core.List.{List, [], _∷_}
-use lib.Dec.{eqb, ltb}
-use lib.IntN.{ℤ, pos, negsuc}
-use lib.Ieee.{Float, binary64, ofInt, ne, sub, div}
-use borrow.Author.Tests.{ltb-true, lt-ltb, eqb-true}
-use Rattle.format.proofs.Answers.{none≢some}
-use Rattle.format.proofs.Rules.{Gives, States, no-such, unstated, bind-some, some-bind, cond-some}
+use mathlib.Core.List.{List}
+use native.Mathlib.Omega.{arith}
+use lib.Dec.{eqb, leb}
+use lib.ListN.{length, take}
+use lib.Ieee.{Float}
+use borrow.Author.Tests.{leb-true, eqb-true, eqb-false, ne-eqb}
+use Rattle.format.proofs.Answers.{refused≢given, none≢some, given-inj, Numbered, refusal}
+use Rattle.format.proofs.Trees.{tree-read, fault-read, read-fault}
+use Rattle.format.proofs.Rules.{States, no-such, none-of, bind-some, some-bind, cond-some}
 use Rattle.format.proofs.Means.{Means}
-use Rattle.format.proofs.Numbers.{level-at, signed-in, double-in}
-use Rattle.format.proofs.Loops.{parameters-in, count-in, kind-in, below-in}
-use Rattle.format.proofs.Depths.{Ranked}
-use Rattle.format.proofs.Below.{Fine, not-deepest, kids-fine, top-fine}
+use Rattle.format.proofs.Numbers.{level-at, double-in}
+use Rattle.format.proofs.Named.{Missing, no-entry, no-chunk, named-read, read-named, named-numbered, named-unique, given-tree, refused-tree, refused-chunk, tree-means}
+use Rattle.format.proofs.Suffices.{fault-low}
+use Rattle.format.specs.Answer.{Answer, refused, given, andThen}
+use Rattle.format.specs.Refusals as why
 use Rattle.format.specs.Bytes.{ascii}
-use Rattle.format.specs.Trees.{mostDepth}
-use Rattle.format.specs.Values.{Value, level, field, fieldIn, asLevel, bind}
-use Rattle.format.specs.Numbers.{signed, float, magnitude, positive, zeroFloat, oneFloat}
-use Rattle.format.specs.Loops.{loopParams, childLevels, countField}
-use Rattle.format.specs.Calibration.{orElse, firstOf, isFour, statedStep, spanStep, ownStep, stepAt, zStep, aboveZero, pixelSize}
-use Rattle.format.specs.Grammar.Lists.{All, over, more}
-use Rattle.format.specs.Grammar.Values.{Field}
-use Rattle.format.specs.Grammar.Loops.{Parameters, Below}
-use Rattle.format.specs.Grammar.Calibration.{Focus, StatedStep, StepOf, stated, spanned, NoStep, Steps, nowhere, own, below, beside, PixelSize}
+use Rattle.format.specs.declared.Range.{Range}
+use Rattle.format.specs.Map.{MapEntry, namedChunk}
+use Rattle.format.specs.Trees.{Stop, at, fault, treeIn, within, wholeTree as wholeTree, treeEntries, namedTree}
+use Rattle.format.specs.Values.{field, fieldIn, asLevel, bind}
+use Rattle.format.specs.Numbers.{float, positive}
+use Rattle.format.specs.Calibration.{aboveZero, pixelSize, unstated, stated, calibrationBy, calibration}
+use Rattle.format.specs.declared.Calibration.{Calibration}
+use Rattle.format.specs.Grammar.Map.{Named}
+use Rattle.format.specs.Grammar.Trees.{Tree}
+use Rattle.format.specs.Grammar.Calibration.{PixelSize, Calibrated, sized, unsized, ends-packed, faulty, missing}
 use Rattle.format.specs.declared.Entry.{Entry}
 
--- ---- the step of one level
-
-four-is : (o : Option ℤ) → isFour o ≡ true → o ≡ some (pos 4)
-unfolding isFour
-four-is none e = absurd (false≢true e)
-four-is (some (pos n)) e = ap (λ (n : ℕ). some (pos n)) (eqb-true n 4 e)
-four-is (some (negsuc n)) e = absurd (false≢true e)
+-- ---- the pixel size
 
 module _ (s : List ℕ) (es : List Entry) (M : Means s es) where
-  abbrev number : ℕ → List ℕ → Option Float
-  number p name = bind (fieldIn s es p name) float
-
-  -- what `statedStep` makes of dZStep
-  data StatedBy (p : ℕ) : Option Float → Type 0 where
-    by-step : {x : Float} → StatedStep s es p x → StatedBy p (some (magnitude x))
-    by-none : ((x : Float) → StatedStep s es p x → ⊥) → StatedBy p none
-
-  stated-by : (p : ℕ) → StatedBy p (statedStep (number p (ascii "dZStep")))
-  unfolding statedStep ascii
-  stated-by p = go (number p (ascii "dZStep")) refl
-    where
-      at-zero : (x : Float) → ne x zeroFloat ≡ false → number p (ascii "dZStep") ≡ some x → (y : Float) → StatedStep s es p y → ⊥
-      at-zero x h q y z =
-          let e : some x ≡ some y = sym q ∙ double-in s es M p .only y (z .stated) in
-          let k : x ≡ y = cc in
-          false≢true (sym h ∙ (ap (λ (x : Float). ne x zeroFloat) k ∙ z .not-zero))
-
-      cases : (x : Float) (b : Bool) → ne x zeroFloat ≡ b → number p (ascii "dZStep") ≡ some x → StatedBy p (cond b (some (magnitude x)) none)
-      cases x true h q = by-step (record { stated = double-in s es M p .holds x q; not-zero = h })
-      cases x false h q = by-none (at-zero x h q)
-
-      go : (o : Option Float) → number p (ascii "dZStep") ≡ o → StatedBy p (statedStep o)
-      go none q = by-none (λ x z. no-such _ (double-in s es M p) q x (z .stated))
-      go (some x) q = cases x (ne x zeroFloat) refl q
-
-  -- a Z loop's level
-  focus-in : (i p : ℕ) → isFour (bind (fieldIn s es i (ascii "eType")) signed) ≡ true → loopParams s es (fieldIn s es i (ascii "uLoopPars")) ≡ some p → Focus s es i p
-  focus-in i p q r = record { parameters = parameters-in s es M i .holds p r; kind = kind-in s es M i .holds (pos 4) (four-is _ q) }
-
-  in-focus : (i p : ℕ) → Focus s es i p → stepAt s es i ≡ ownStep s es true (some p)
-  unfolding stepAt isFour
-  in-focus i p f = rw (kind-in s es M i .only (pos 4) (f .kind), parameters-in s es M i .only p (f .parameters)) refl
-
-  span-in : (i p : ℕ) → Focus s es i p → ((x : Float) → StatedStep s es p x → ⊥) → (x : Float)
-      → spanStep (countField s es p) (number p (ascii "dZHigh")) (number p (ascii "dZLow")) ≡ some x → StepOf s es i x
-  unfolding spanStep ascii
-  span-in i p f n x e = go (number p (ascii "dZHigh")) refl (number p (ascii "dZLow")) refl e
-    where
-      go : (hi : Option Float) → number p (ascii "dZHigh") ≡ hi → (lo : Option Float) → number p (ascii "dZLow") ≡ lo
-          → spanStep (countField s es p) hi lo ≡ some x → StepOf s es i x
-      go none q lo r e = absurd (none≢some e)
-      go (some hi) q none r e = absurd (none≢some e)
-      go (some hi) q (some lo) r e =
-          let (h, z) = cond-some (ltb 1 (countField s es p)) _ x e in
-          subst (StepOf s es i) z
-          (spanned f n (count-in s es M p .holds) (ltb-true 1 (countField s es p) h) (double-in s es M p .holds hi q) (double-in s es M p .holds lo r))
-
-  pub step-in : (i : ℕ) → States (stepAt s es i) (StepOf s es i)
-  unfolding stepAt ownStep
-  step-in i = record { holds = λ x e. go x (isFour (bind (fieldIn s es i (ascii "eType")) signed)) refl (loopParams s es (fieldIn s es i (ascii "uLoopPars"))) refl e; only = back }
-    where
-      by : (p : ℕ) (x : Float) → Focus s es i p → (o : Option Float) → StatedBy p o
-          → orElse o (spanStep (countField s es p) (number p (ascii "dZHigh")) (number p (ascii "dZLow"))) ≡ some x → StepOf s es i x
-      by p x f o (by-step {x = y} z) e = let k : magnitude y ≡ x = cc in rw k at (stated f z)
-      by p x f o (by-none n) e = span-in i p f n x e
-
-      go : (x : Float) (b : Bool) → isFour (bind (fieldIn s es i (ascii "eType")) signed) ≡ b → (o : Option ℕ) → loopParams s es (fieldIn s es i (ascii "uLoopPars")) ≡ o
-          → ownStep s es b o ≡ some x → StepOf s es i x
-      go x false q o r e = absurd (none≢some e)
-      go x true q none r e = absurd (none≢some e)
-      go x true q (some p) r e = by p x (focus-in i p q r) _ (stated-by p) e
-
-      no-step : (p : ℕ) (o : Option Float) → ((x : Float) → StatedStep s es p x → ⊥) → StatedBy p o → o ≡ none
-      no-step p o n (by-step z) = absurd (n _ z)
-      no-step p o n (by-none m) = refl
-
-      back : (x : Float) → StepOf s es i x → stepAt s es i ≡ some x
-      back x (stated {p = p} {x = y} f z) = unfold ascii statedStep in
-          in-focus i p f ∙ rw (double-in s es M p .only y (z .stated), z .not-zero) refl
-      back x (spanned {p = p} {n = n} {high = hi} {low = lo} f m u h y z) = unfold ascii spanStep in
-          in-focus i p f ∙ rw (no-step p _ m (stated-by p), double-in s es M p .only hi y, double-in s es M p .only lo z, count-in s es M p .only n u, lt-ltb 1 n h) refl
-
-  -- ---- the pixel size
-
   pub pixel-in : States (pixelSize s es) (PixelSize s es)
   unfolding pixelSize ascii
   pixel-in =
       record {
         holds = λ x e.
-          let (q, h) = above _ x e in
-          let (i, e₁, e₂) = bind-some (asLevel (field s es 0 (ascii "SLxCalibration"))) (λ i. bind (fieldIn s es i (ascii "dCalibration")) float) x q in
-          record { at-level = i; level-there = level-at s es M 0 .holds i e₁; stated = double-in s es M i .holds x e₂; above-0 = h };
+            let (q, h) = above _ x e in
+            let (i, e₁, e₂) = bind-some (asLevel (field s es 0 (ascii "SLxCalibration"))) (λ i. bind (fieldIn s es i (ascii "dCalibration")) float) x q in
+            record { at-level = i; level-there = level-at s es M 0 .holds i e₁; stated = double-in s es M i .holds x e₂; above-0 = h };
         only = λ x z. some-above _ x (some-bind _ _ (z .at-level) x (level-at s es M 0 .only (z .at-level) (z .level-there)) (double-in s es M (z .at-level) .only x (z .stated))) (z .above-0);
       }
     where
@@ -129,62 +52,77 @@ module _ (s : List ℕ) (es : List Entry) (M : Means s es) where
       some-above : (o : Option Float) (x : Float) → o ≡ some x → positive x ≡ true → aboveZero o ≡ some x
       some-above o x q h = rw (q, h) refl
 
--- ---- the first step in tree order
+-- ---- what calibration gives
 
-module _ (s : List ℕ) (es : List Entry) (D : ℕ → ℕ) (R : Ranked D 0 es) (M : Means s es) where
-  steps-first : (left : ℕ) (is : List ℕ) (z : Option Float) → All (Fine D left) is → Steps s es is z → firstOf (zStep left s es) is ≡ z
-  unfolding zStep firstOf orElse
-  steps-first left is z a nowhere = refl
-  steps-first zero is z (more f a) (own x) = absurd (not-deepest f)
-  steps-first (suc m) is z (more f a) (own {i = i} {x = y} x) = rw (step-in s es M i .only y x) refl
-  steps-first zero is z (more f a) (below n b k) = absurd (not-deepest f)
-  steps-first (suc m) is z (more f a) (below {i = i} {ks = ks} {x = y} n b k) =
-      let q = below-in s es M i .only ks b in
-      rw (unstated _ (step-in s es M i) n, q, steps-first m ks (some y) (rw q at (kids-fine s es D R m i f)) k) refl
-  steps-first zero is z (more f a) (beside n b k w) = absurd (not-deepest f)
-  steps-first (suc m) is z (more f a) (beside {i = i} {is = js} {ks = ks} n b k w) =
-      let q = below-in s es M i .only ks b in
-      rw (unstated _ (step-in s es M i) n, q, steps-first m ks none (rw q at (kids-fine s es D R m i f)) k) (steps-first (suc m) js z a w)
+module _ (s m : List ℕ) (es : List MapEntry) (room : ℕ) (z : Option Float) where
+  abbrev name : List ℕ
+  name = ascii "ImageCalibrationLV|0!"
 
-  steps-more : (m : ℕ) → ((is : List ℕ) → All (Fine D m) is → Steps s es is (firstOf (zStep m s es) is)) → (is : List ℕ) → All (Fine D (suc m)) is
-      → Steps s es is (firstOf (zStep (suc m) s es) is)
-  unfolding zStep firstOf orElse
-  steps-more m ih [] a = nowhere
-  steps-more m ih (i ∷ is) (more f a) = go (stepAt s es i) refl (firstOf (zStep m s es) ks) refl (steps-more m ih is a)
+  -- what opening makes of a tree of the calibration
+  size-tree : (r : Range) (size : Calibration) → Named s m es name r → calibrationBy s z (treeEntries (within room (treeIn s r))) ≡ given size
+      → Calibrated s m es z size × (length (treeIn s r .entries) ≤ room)
+  unfolding calibrationBy within wholeTree
+  size-tree r size x e = go (leb (length (treeIn s r .entries)) room) refl e
     where
-      ks : List ℕ
-      ks = childLevels s es (fieldIn s es i (ascii "ppNextLevelEx"))
+      pixel : (ts : List Entry) → Tree s r ts → (o : Option Float) → pixelSize s ts ≡ o → Calibrated s m es z (stated o z)
+      pixel ts y none q = unsized x y (no-such _ (pixel-in s ts (tree-means s r ts y)) q)
+      pixel ts y (some c) q = sized x y (pixel-in s ts (tree-means s r ts y) .holds c q)
 
-      rest : Steps s es ks (firstOf (zStep m s es) ks)
-      rest = ih ks (kids-fine s es D R m i f)
+      number : (n : ℕ) → treeIn s r .stop ≡ fault n → (b : Bool) → eqb n why.packed ≡ b → Calibrated s m es z (unstated (cond b 2 0))
+      number n q true h = ends-packed x (rw (eqb-true n why.packed h) at (fault-read s r n q))
+      number n q false h = faulty x (fault-read s r n q) (eqb-false n why.packed h)
 
-      go : (x : Option Float) → stepAt s es i ≡ x → (y : Option Float) → firstOf (zStep m s es) ks ≡ y → Steps s es is (firstOf (zStep (suc m) s es) is)
-          → Steps s es (i ∷ is) (orElse (orElse x y) (firstOf (zStep (suc m) s es) is))
-      go (some x) p y q w = own (step-in s es M i .holds x p)
-      go none p (some y) q w = below (no-such _ (step-in s es M i) p) (below-in s es M i .holds) (rw q at rest)
-      go none p none q w = beside (no-such _ (step-in s es M i) p) (below-in s es M i .holds) (rw q at rest) w
+      end : (t : Stop) → treeIn s r .stop ≡ t → calibrationBy s z (wholeTree t (treeIn s r .entries)) ≡ given size → Calibrated s m es z size
+      end (at p) q e = subst (Calibrated s m es z) (given-inj e) (pixel (treeIn s r .entries) (tree-read s r p q) _ refl)
+      end (fault n) q e =
+          let low = fault-low s r n q in
+          let e₂ : cond (eqb n why.table) (refused why.table) (given (unstated (cond (eqb n why.packed) 2 0))) ≡ given size = e in
+          subst (Calibrated s m es z) (given-inj (rw (ne-eqb n why.table (λ z. omega arith)) at e₂)) (number n q (eqb n why.packed) refl)
 
-  first-steps : (left : ℕ) (is : List ℕ) → All (Fine D left) is → Steps s es is (firstOf (zStep left s es) is)
-  unfolding firstOf
-  first-steps zero [] a = nowhere
-  first-steps zero (i ∷ is) (more f a) = absurd (not-deepest f)
-  first-steps (suc m) is a = steps-more m (first-steps m) is a
+      go : (b : Bool) → leb (length (treeIn s r .entries)) room ≡ b
+          → calibrationBy s z (treeEntries (cond b (treeIn s r) (record { entries = take room (treeIn s r .entries); stop = fault why.table }))) ≡ given size
+          → Calibrated s m es z size × (length (treeIn s r .entries) ≤ room)
+      go true q e = (end (treeIn s r .stop) refl e, leb-true _ _ q)
+      go false q e = absurd (refused≢given e)
 
-module _ (s : List ℕ) (es : List Entry) (D : ℕ → ℕ) (R : Ranked D 0 es) (M : Means s es) (i : ℕ) (there : Field s es 0 (ascii "SLxExperiment") (level i)) where
-  fine : All (Fine D mostDepth) (i ∷ [])
-  unfolding ascii
-  fine = top-fine s es D R (ascii "SLxExperiment") i (M .of-field 0 _ _ (level i) there)
-
-  one-step : firstOf (zStep mostDepth s es) (i ∷ []) ≡ zStep mostDepth s es i
-  unfolding firstOf
-  one-step = go (zStep mostDepth s es i)
+  pub calibration-read : (size : Calibration) → calibration s m es room z ≡ given size
+      → Calibrated s m es z size × ((r : Range) → Named s m es name r → length (treeIn s r .entries) ≤ room)
+  unfolding calibration namedTree andThen calibrationBy
+  calibration-read size e = go (namedChunk s m es name) refl (named-numbered s m es name) e
     where
-      go : (z : Option Float) → orElse z none ≡ z
-      go none = refl
-      go (some x) = refl
+      go : (x : Answer Range) → namedChunk s m es name ≡ x → Numbered Missing x
+          → calibrationBy s z (andThen x λ r. treeEntries (within room (treeIn s r))) ≡ given size
+          → Calibrated s m es z size × ((r : Range) → Named s m es name r → length (treeIn s r .entries) ≤ room)
+      go (refused n) q (refusal h) e = (number n h e, λ r x. absurd (no-chunk-there r x))
+        where
+          no-chunk-there : (r : Range) → Named s m es name r → ⊥
+          no-chunk-there r x = refused≢given (sym q ∙ read-named s m es name r x)
 
-  pub step-read : Steps s es (i ∷ []) (zStep mostDepth s es i)
-  step-read = subst (Steps s es (i ∷ [])) one-step (first-steps s es D R M mostDepth (i ∷ []) fine)
+          number : (n : ℕ) → Missing n → calibrationBy s z (refused n) ≡ given size → Calibrated s m es z size
+          number n no-entry e = subst (Calibrated s m es z) (given-inj e) (missing no-chunk-there)
+          number n no-chunk e = subst (Calibrated s m es z) (given-inj e) (missing no-chunk-there)
+      go (given r) q h e =
+          let x = named-read s m es name r q in
+          let (c, l) = size-tree r size x e in
+          (c, λ p y. rw (named-unique s m es name p r y x) l)
 
-  pub read-step : (z : Option Float) → Steps s es (i ∷ []) z → zStep mostDepth s es i ≡ z
-  read-step z x = sym one-step ∙ steps-first s es D R M mostDepth (i ∷ []) z fine x
+  -- and the other way round
+  pub read-calibration : (size : Calibration) → Calibrated s m es z size → ((r : Range) → Named s m es name r → length (treeIn s r .entries) ≤ room)
+      → calibration s m es room z ≡ given size
+  unfolding calibration
+  read-calibration size (sized {r = r} {ts = ts} {x = c} x y p) fit =
+      rw (given-tree s m es name room ts r x y (fit r x), pixel-in s ts (tree-means s r ts y) .only c p) refl
+  read-calibration size (unsized {r = r} {ts = ts} x y n) fit =
+      rw (given-tree s m es name room ts r x y (fit r x), none-of _ (pixel-in s ts (tree-means s r ts y)) n) refl
+  read-calibration size (ends-packed {r = r} x y) fit =
+      rw (refused-tree s m es name room why.packed r x (read-fault s r why.packed y) (fit r x)) refl
+  read-calibration size (faulty {r = r} {n = n} x y h) fit =
+      let q = read-fault s r n y in
+      let low = fault-low s r n q in
+      rw (refused-tree s m es name room n r x q (fit r x), ne-eqb n why.table (λ e. omega arith), ne-eqb n why.packed h) refl
+  read-calibration size (missing f) fit = go (namedChunk s m es name) refl (named-numbered s m es name)
+    where
+      go : (x : Answer Range) → namedChunk s m es name ≡ x → Numbered Missing x → calibrationBy s z (namedTree s m es room name) ≡ given (unstated 0)
+      go (given r) q h = absurd (f r (named-read s m es name r q))
+      go (refused n) q (refusal no-entry) = rw (refused-chunk s m es name room why.missing q) refl
+      go (refused n) q (refusal no-chunk) = rw (refused-chunk s m es name room why.chunk q) refl

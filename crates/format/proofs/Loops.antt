@@ -1,43 +1,31 @@
 -- What the grammar says of one experiment level is what is read of it. Assumes nothing.
-use Prim.Native.Nat.{ℕ, zero, suc, _+_, _≤_, _<_, max}
-use mathlib.Core.Path.{_≡_, refl, sym, ap, _∙_, subst}
-use mathlib.Core.Bool.{Bool, true, false, cond, not, _||_, _&&_, false≢true}
-use mathlib.Core.Logic.{_⊎_, inl, inr}
+use Prim.Native.Nat.{ℕ, zero, suc, _+_}
+use mathlib.Core.Path.{_≡_, refl, sym, ap, _∙_}
+use mathlib.Core.Bool.{Bool, true, false, cond, not, _||_, false≢true}
+use mathlib.Core.Logic.{inl, inr}
 use mathlib.Core.Option.{Option, none, some}
-use mathlib.Core.List.{List, [], _∷_, _++_, map, reverse, append-assoc, append-nil}
+use mathlib.Core.List.{List, [], _∷_}
 use native.Mathlib.Nat.{zero-add}
 use native.Mathlib.Omega.{arith}
 use lib.Dec.{eqb, ltb}
 use lib.IntN.{ℤ, pos, negsuc}
 use lib.ListN.{take}
-use borrow.Author.Tests.{ltb-true, ltb-false, lt-ltb, le-ltb, eqb-true, eqb-false, eq-eqb, ne-eqb, not-false}
-use Rattle.format.proofs.Tests.{or-none, cond-by}
-use Rattle.format.proofs.Answers.{refused≢given, none≢some, refuseIf-given, andThen-given, given-inj, not-refused, go-on}
-use Rattle.format.proofs.Rules.{Gives, States, no-such, unstated, bind-some, some-bind}
+use borrow.Author.Tests.{ltb-true, ltb-false, lt-ltb, le-ltb, eqb-true, eqb-false, ne-eqb, not-false}
+use Rattle.format.proofs.Tests.{cond-by}
+use Rattle.format.proofs.Answers.{none≢some}
+use Rattle.format.proofs.Rules.{Gives, States, no-such, none-of, bind-some, some-bind}
 use Rattle.format.proofs.Means.{Means}
 use Rattle.format.proofs.Numbers.{field-in, level-in, unsigned-in, signed-in}
 use Rattle.format.proofs.Lookups.{as-level}
-use Rattle.format.proofs.Depths.{Ranked}
-use Rattle.format.proofs.Below.{all-map, Next, below-next, level-shallow}
-use Rattle.format.proofs.Frames.{has-free, free-has}
-use Rattle.format.specs.Answer.{given, andThen}
 use Rattle.format.specs.Bytes.{ascii}
-use Rattle.format.specs.Trees.{mostDepth}
-use Rattle.format.specs.Values.{Value, flag, whole, double, text, bytes, level, list, valueAt, field, fieldIn, asLevel, bind}
+use Rattle.format.specs.Values.{Value, flag, whole, double, text, bytes, level, list, valueAt, fieldIn, asLevel, bind}
 use Rattle.format.specs.Numbers.{unsigned, signed}
-use Rattle.format.specs.Loops.{mostCount, orZero, loopParams, childLevels, sizeOf, countSet, validOf, countField, pointCount, planesCount, spectralCount, Said, nothing, wrong, loop, supported, counted, typed, saidBy, said, Built, append, walkAll, walkOne, walk, axisOf, hasAxis, judge, experiment}
-use Rattle.format.specs.Refusals as why
+use Rattle.format.specs.Loops.{mostCount, orZero, loopParams, childLevels, sizeOf, countSet, validOf, countField, pointCount, planesCount, spectralCount, Said, nothing, wrong, loop, supported, counted, typed, saidBy, said}
 use Rattle.format.specs.Grammar.Lists.{All, over, more}
 use Rattle.format.specs.Grammar.Values.{ValueOf, Field}
-use Rattle.format.specs.Grammar.Numbers.{Unsigned, Signed}
+use Rattle.format.specs.Grammar.Numbers.{Signed}
 use Rattle.format.specs.Grammar.Loops.{Parameters, in-level, in-list, UiCount, stated as count-stated, unstated as count-unstated, PlanesCount, SpectralCount, preferred, plain, Points, Valid, no-more, set, unset, PointCount, no-points, all-points, valid-points, Count, of-time, of-points, of-focus, of-spectral, of-custom, of-time-uneven, Stops, no-parameters, no-type, type-0, type-over, count-0, LoopAt, Below, levels, no-levels}
-use Rattle.format.specs.Grammar.Loops.{Appended, first, deeper, larger, dropped, Walks, done, stops, spectral, appends, loopOf, Supported, Free, Distinct, LoopsOf}
-use Rattle.format.specs.Grammar.Loops.{nil, cons}
 use Rattle.format.specs.declared.Entry.{Entry}
-use Rattle.format.specs.declared.Axis.{Axis}
-use Rattle.format.specs.declared.Loop.{Loop}
-
--- ---- what is told of a value
 
 -- what `validOf` makes of pItemValid
 data ValidBy (s : List ℕ) (es : List Entry) (n : ℕ) : Option Value → ℕ → Type 0 where
@@ -60,7 +48,11 @@ all-take P zero l a = over
 all-take P (suc n) [] a = over
 all-take P (suc n) (i ∷ l) (more h a) = more h (all-take P n l a)
 
--- ---- what one experiment level says
+-- what the rules say of the level i, for each thing that `said` may give
+unfoldable pub Told : List ℕ → List Entry → ℕ → Said → Type 0
+Told s es i nothing = Stops s es i
+Told s es i (wrong n) = Unit {0}
+Told s es i (loop t c) = LoopAt s es i t c
 
 module _ (s : List ℕ) (es : List Entry) (M : Means s es) where
   pub parameters-in : (i : ℕ) → States (loopParams s es (fieldIn s es i (ascii "uLoopPars"))) (Parameters s es i)
@@ -104,7 +96,7 @@ module _ (s : List ℕ) (es : List Entry) (M : Means s es) where
 
       back : (n : ℕ) → UiCount s es p n → countField s es p ≡ n
       back n (count-stated u) = rw (unsigned-in s es M p .only n u) refl
-      back n (count-unstated f) = rw (unstated _ (unsigned-in s es M p) f) refl
+      back n (count-unstated f) = rw (none-of _ (unsigned-in s es M p) f) refl
 
   planes-in : (p : ℕ)
       → States (bind (asLevel (fieldIn s es p (ascii "pPlanes"))) λ q. bind (fieldIn s es q (ascii "uiCount")) unsigned) (PlanesCount s es p)
@@ -112,8 +104,8 @@ module _ (s : List ℕ) (es : List Entry) (M : Means s es) where
   planes-in p =
       record {
         holds = λ n e.
-          let (q, e₁, e₂) = bind-some (asLevel (fieldIn s es p (ascii "pPlanes"))) (λ q. bind (fieldIn s es q (ascii "uiCount")) unsigned) n e in
-          record { planes = q; there = level-in s es M p .holds q e₁; count = unsigned-in s es M q .holds n e₂ };
+            let (q, e₁, e₂) = bind-some (asLevel (fieldIn s es p (ascii "pPlanes"))) (λ q. bind (fieldIn s es q (ascii "uiCount")) unsigned) n e in
+            record { planes = q; there = level-in s es M p .holds q e₁; count = unsigned-in s es M q .holds n e₂ };
         only = λ n x. some-bind _ _ (x .planes) n (level-in s es M p .only (x .planes) (x .there)) (unsigned-in s es M (x .planes) .only n (x .count));
       }
 
@@ -130,7 +122,7 @@ module _ (s : List ℕ) (es : List Entry) (M : Means s es) where
 
       back : (n : ℕ) → SpectralCount s es p n → planesCount (countField s es p) planes ≡ n
       back n (preferred x) = rw (planes-in p .only n x) refl
-      back n (plain f u) = rw (unstated _ (planes-in p) f) (count-in p .only n u)
+      back n (plain f u) = rw (none-of _ (planes-in p) f) (count-in p .only n u)
 
   -- Points has elements or entries
   points-in : (p m : ℕ) → sizeOf s es (fieldIn s es p (ascii "Points")) ≡ suc m → Points s es p (suc m)
@@ -238,18 +230,13 @@ module _ (s : List ℕ) (es : List Entry) (M : Means s es) where
   typed-count i p t c (of-custom u) = ap (counted 7) (count-in p .only c u)
   typed-count i p t c (of-time-uneven u) = ap (counted 8) (count-in p .only c u)
 
-  -- ---- what a level says
-
-  unfoldable pub Told : ℕ → Said → Type 0
-  Told i nothing = Stops s es i
-  Told i (wrong n) = Unit {0}
-  Told i (loop t c) = LoopAt s es i t c
+  -- ---- what the level says
 
   pub kind-in : (i : ℕ) → States (bind (fieldIn s es i (ascii "eType")) signed) (Signed s es i (ascii "eType"))
   unfolding ascii
   kind-in i = signed-in s es M i
 
-  pub told : (i : ℕ) → Told i (said s es i)
+  pub told : (i : ℕ) → Told s es i (said s es i)
   unfolding said Told
   told i = go (loopParams s es (fieldIn s es i (ascii "uLoopPars"))) refl (bind (fieldIn s es i (ascii "eType")) signed) refl
     where
@@ -257,23 +244,23 @@ module _ (s : List ℕ) (es : List Entry) (M : Means s es) where
       zero-or-over t x true q e = type-0 (rw (eqb-true t 0 q) at x)
       zero-or-over t x false q e = type-over x (ltb-true 10 t e)
 
-      count : (p t c : ℕ) → Parameters s es i p → Signed s es i (ascii "eType") (pos t) → Count s es i p t c → Told i (counted t c)
+      count : (p t c : ℕ) → Parameters s es i p → Signed s es i (ascii "eType") (pos t) → Count s es i p t c → Told s es i (counted t c)
       count p t c x y n =
-          cond-by (Told i) (ltb mostCount c) _ _ (λ q. tt) λ q₁.
-          cond-by (Told i) (eqb c 0) _ _ (λ q. count-0 x y (rw (eqb-true c 0 q) at n)) λ q₂.
+          cond-by (Told s es i) (ltb mostCount c) _ _ (λ q. tt) λ q₁.
+          cond-by (Told s es i) (eqb c 0) _ _ (λ q. count-0 x y (rw (eqb-true c 0 q) at n)) λ q₂.
           let z : (c ≡ 0 → ⊥) = eqb-false c 0 q₂ in
           record { parameters = p; there = x; kind = y; count = n; count-some = omega arith; count-most = ltb-false mostCount c q₁ }
 
       go : (o : Option ℕ) → loopParams s es (fieldIn s es i (ascii "uLoopPars")) ≡ o → (k : Option ℤ) → bind (fieldIn s es i (ascii "eType")) signed ≡ k
-          → Told i (saidBy s es i o k)
+          → Told s es i (saidBy s es i o k)
       go none q k r = no-parameters (no-such _ (parameters-in i) q)
       go (some p) q none r = no-type (no-such _ (kind-in i) r)
       go (some p) q (some (negsuc t)) r = tt
       go (some p) q (some (pos t)) r =
           let x = parameters-in i .holds p q in
           let y = kind-in i .holds (pos t) r in
-          cond-by (Told i) (eqb t 0 || ltb 10 t) _ _ (λ e. zero-or-over t y (eqb t 0) refl e) λ q₁.
-          cond-by (Told i) (not (supported t)) _ _ (λ e. tt) λ q₂.
+          cond-by (Told s es i) (eqb t 0 || ltb 10 t) _ _ (λ e. zero-or-over t y (eqb t 0) refl e) λ q₁.
+          cond-by (Told s es i) (not (supported t)) _ _ (λ e. tt) λ q₂.
           count p t _ x y (count-of i p t (not-false _ q₂))
 
   said-typed : (i p t : ℕ) → Parameters s es i p → Signed s es i (ascii "eType") (pos t) → said s es i ≡ typed s es i p (pos t)
@@ -291,8 +278,8 @@ module _ (s : List ℕ) (es : List Entry) (M : Means s es) where
 
   pub stops-said : (i : ℕ) → Stops s es i → said s es i ≡ nothing
   unfolding said typed counted
-  stops-said i (no-parameters f) = rw (unstated _ (parameters-in i) f) refl
-  stops-said i (no-type f) = type-said i none (unstated _ (kind-in i) f) (λ p. refl)
+  stops-said i (no-parameters f) = rw (none-of _ (parameters-in i) f) refl
+  stops-said i (no-type f) = type-said i none (none-of _ (kind-in i) f) (λ p. refl)
   stops-said i (type-0 x) = type-said i (some (pos 0)) (kind-in i .only (pos 0) x) (λ p. refl)
   stops-said i (type-over {t = t} x h) = type-said i (some (pos t)) (kind-in i .only (pos t) x) (λ p. rw (ne-eqb t 0 (λ e. omega arith), lt-ltb 10 t h) refl)
   stops-said i (count-0 x y n) = said-typed i _ _ x y ∙ typed-count i _ _ 0 n
@@ -314,4 +301,4 @@ module _ (s : List ℕ) (es : List Entry) (M : Means s es) where
 
       back : (is : List ℕ) → Below s es i is → childLevels s es (fieldIn s es i (ascii "ppNextLevelEx")) ≡ is
       back is (levels {v = v} f l) = rw (field-in s es M i .only v f) (M .of-levels v is l)
-      back is (no-levels f) = rw (unstated _ (field-in s es M i) f) refl
+      back is (no-levels f) = rw (none-of _ (field-in s es M i) f) refl

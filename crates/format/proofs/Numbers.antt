@@ -1,11 +1,9 @@
 -- The numbers that a tree states by the rules are the readings of its fields. Assumes nothing.
-use Prim.Native.Nat.{ℕ, suc, _+_}
+use Prim.Native.Nat.{ℕ, suc}
 use mathlib.Core.Path.{_≡_}
 use mathlib.Core.Option.{Option, some}
 use mathlib.Core.List.{List, _∷_}
 use native.Mathlib.Numerals.{add-one}
-use lib.IntN.{ℤ}
-use lib.Ieee.{Float}
 use Rattle.format.proofs.Rules.{States, bind-some, some-bind}
 use Rattle.format.proofs.Lookups.{as-level, level-as}
 use Rattle.format.proofs.Means.{Means}

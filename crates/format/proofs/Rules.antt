@@ -20,8 +20,8 @@ module _ {A : Type 0} {P : A → Type 0} (o : Option A) (S : States o P) where
   pub no-such : o ≡ none → (a : A) → P a → ⊥
   no-such q a p = none≢some (sym q ∙ S .only a p)
 
-  pub unstated : ((a : A) → P a → ⊥) → o ≡ none
-  unstated f = go o refl
+  pub none-of : ((a : A) → P a → ⊥) → o ≡ none
+  none-of f = go o refl
     where
       go : (x : Option A) → o ≡ x → x ≡ none
       go none q = refl

@@ -1,36 +1,25 @@
 -- The grammar's loops are those that the walk finds. Assumes nothing.
-use Prim.Native.Nat.{ℕ, zero, suc, _+_, _≤_, _<_, max}
-use mathlib.Core.Path.{_≡_, refl, sym, ap, _∙_, subst}
-use mathlib.Core.Bool.{Bool, true, false, cond, not, _||_, _&&_, false≢true}
-use mathlib.Core.Logic.{_⊎_, inl, inr}
-use mathlib.Core.Option.{Option, none, some}
+use Prim.Native.Nat.{ℕ, zero, suc, max}
+use mathlib.Core.Path.{_≡_, refl, sym, ap, _∙_}
+use mathlib.Core.Bool.{Bool, true, false, cond, _&&_}
 use mathlib.Core.List.{List, [], _∷_, _++_, map, reverse, append-assoc, append-nil}
-use native.Mathlib.Nat.{zero-add}
 use native.Mathlib.Omega.{arith}
 use lib.Dec.{eqb, ltb}
-use lib.IntN.{ℤ, pos, negsuc}
-use lib.ListN.{take}
-use borrow.Author.Tests.{ltb-true, ltb-false, lt-ltb, le-ltb, eqb-true, eqb-false, eq-eqb, ne-eqb, not-false}
-use Rattle.format.proofs.Tests.{or-none, cond-by}
-use Rattle.format.proofs.Answers.{refused≢given, none≢some, refuseIf-given, andThen-given, given-inj, not-refused, go-on}
-use Rattle.format.proofs.Rules.{Gives, States, no-such, unstated, bind-some, some-bind}
+use borrow.Author.Tests.{ltb-true, ltb-false, lt-ltb, le-ltb, eqb-true, eqb-false, eq-eqb, ne-eqb}
+use Rattle.format.proofs.Answers.{refused≢given, refuseIf-given, andThen-given, given-inj, not-refused, go-on}
 use Rattle.format.proofs.Means.{Means}
 use Rattle.format.proofs.Loops.{Told, told, stops-said, loop-said, below-in}
-use Rattle.format.proofs.Lookups.{as-level}
 use Rattle.format.proofs.Depths.{Ranked}
 use Rattle.format.proofs.Below.{Fine, not-deepest, kids-fine, top-fine}
 use Rattle.format.proofs.Frames.{has-free, free-has}
 use Rattle.format.specs.Answer.{given, andThen}
 use Rattle.format.specs.Bytes.{ascii}
 use Rattle.format.specs.Trees.{mostDepth}
-use Rattle.format.specs.Values.{Value, flag, whole, double, text, bytes, level, list, valueAt, field, fieldIn, asLevel, bind}
-use Rattle.format.specs.Numbers.{unsigned, signed}
-use Rattle.format.specs.Loops.{mostCount, orZero, loopParams, childLevels, sizeOf, countSet, validOf, countField, pointCount, planesCount, spectralCount, Said, nothing, wrong, loop, supported, counted, typed, saidBy, said, Built, append, walkAll, walkOne, walk, axisOf, hasAxis, judge, experiment}
-use Rattle.format.specs.Refusals as why
-use Rattle.format.specs.Grammar.Lists.{All, over, more}
-use Rattle.format.specs.Grammar.Values.{ValueOf, Field}
-use Rattle.format.specs.Grammar.Numbers.{Unsigned, Signed}
-use Rattle.format.specs.Grammar.Loops.{Parameters, in-level, in-list, UiCount, stated as count-stated, unstated as count-unstated, PlanesCount, SpectralCount, preferred, plain, Points, Valid, no-more, set, unset, PointCount, no-points, all-points, valid-points, Count, of-time, of-points, of-focus, of-spectral, of-custom, of-time-uneven, Stops, no-parameters, no-type, type-0, type-over, count-0, LoopAt, Below, levels, no-levels}
+use Rattle.format.specs.Values.{level, fieldIn}
+use Rattle.format.specs.Loops.{childLevels, Said, nothing, wrong, loop, supported, said, Built, append, walkAll, walkOne, walk, axisOf, hasAxis, judge, experiment}
+use Rattle.format.specs.Grammar.Lists.{All, more}
+use Rattle.format.specs.Grammar.Values.{Field}
+use Rattle.format.specs.Grammar.Loops.{LoopAt}
 use Rattle.format.specs.Grammar.Loops.{Appended, first, deeper, larger, dropped, Walks, done, stops, spectral, appends, loopOf, Supported, Free, Distinct, LoopsOf}
 use Rattle.format.specs.Grammar.Loops.{nil, cons}
 use Rattle.format.specs.declared.Entry.{Entry}
@@ -104,7 +93,7 @@ module _ (s : List ℕ) (es : List Entry) (D : ℕ → ℕ) (R : Ranked D 0 es) 
       kind t c x true h cs e w = spectral (rw (eqb-true t 6 h) at x) (below-in s es M i .holds) (ih ks n bs cs fine e) w
       kind t c x false h cs e w = appends x (eqb-false t 6 h) (is-append t c n bs) (below-in s es M i .holds) (ih ks (suc n) (append t c n bs) cs fine e) w
 
-      go : (x : Said) → Told s es M i x → (cs : List Built) → walkOne (walk m s es) ks n bs x ≡ given cs
+      go : (x : Said) → Told s es i x → (cs : List Built) → walkOne (walk m s es) ks n bs x ≡ given cs
           → Walks s es is n cs bs′ → Walks s es (i ∷ is) n bs bs′
       go nothing q cs e w = stops q (rw (← given-inj e) at w)
       go (wrong k) q cs e w = absurd (refused≢given e)
