@@ -24,3 +24,5 @@ pub mod Channels
 pub mod Summary
 pub mod Calls
 pub mod Grammar
+-- "Both edges": the starred lines
+pub mod Edges
