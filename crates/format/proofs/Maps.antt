@@ -5,14 +5,15 @@ use mathlib.Core.Bool.{Bool, true, false, cond, not, true≢false}
 use mathlib.Core.Option.{Option, none, some}
 use mathlib.Core.List.{List, [], _∷_, _++_}
 use native.Mathlib.Omega.{arith}
-use lib.Dec.{ltb, eqb, lit<}
+use lib.Dec.{ltb, eqb}
 use lib.ListN.{length, getD, take, drop, length-drop}
 use lib.Seq.{getD-drop}
 use borrow.Author.Tests.{ltb-false, le-ltb, eqb-true, eqb-false, eq-eqb, ne-eqb}
 use Rattle.format.proofs.Tests.{same-true, true-same, false-same}
-use Rattle.format.proofs.Answers.{refused≢given, refuseIf-given, andThen-given, given-inj, not-refused, go-on, none≢some, Numbered, NotZero, answer, refusal, refuseIf-numbered, andThen-numbered}
+use Rattle.format.proofs.Answers.{refused≢given, refuseIf-given, andThen-given, given-inj, not-refused, go-on, none≢some, Numbered, answer, refusal, refuseIf-numbered, andThen-numbered}
 use Rattle.format.specs.Answer.{Answer, refused, given, refuseIf, andThen}
 use Rattle.format.specs.Bytes.{le, part, same}
+use Rattle.format.specs.Refusals as why
 use Rattle.format.specs.Map.{MapEntry, later as laterOf, offsetOf, through, prepend, endMark, mostEntries, throughMark, entryThen, mapStep, mapFrom, mapEntries}
 use Rattle.format.specs.Grammar.Map.{Name, Entries, ended, entry, MapOf, Unlisted, Listed, last, later}
 use Rattle.format.specs.Grammar.Map.{nil, cons}
@@ -124,30 +125,36 @@ pub read-map : (m : List ℕ) (es : List MapEntry) → MapOf m es → mapEntries
 unfolding mapEntries
 read-map m es r = read-entries mostEntries m 0 es (r .listed) (r .not-too-many)
 
-data Each : Option (ℕ → Answer (List MapEntry)) → Type 0 where
-  nothing : Each none
-  each : {f : ℕ → Answer (List MapEntry)} → ((p : ℕ) → Numbered NotZero (f p)) → Each (some f)
+-- a map that is not read has the number 5
+module _ (P : ℕ → Type 0) (h : P why.map) where
+  data Each : Option (ℕ → Answer (List MapEntry)) → Type 0 where
+    nothing : Each none
+    each : {f : ℕ → Answer (List MapEntry)} → ((p : ℕ) → Numbered P (f p)) → Each (some f)
 
-then-numbered : (more : Option (ℕ → Answer (List MapEntry))) (m : List ℕ) (at n : ℕ) (b : Bool) → Each more → Numbered NotZero (entryThen more m at n b)
-unfolding entryThen
-then-numbered more m at n true h = answer
-then-numbered none m at n false h = refusal (lit< tt)
-then-numbered (some f) m at n false (each h) =
-    refuseIf-numbered (ltb (length m) (at + n + 16)) 5 _ (lit< tt) (andThen-numbered (f (at + n + 16)) _ (h (at + n + 16)) λ a. answer)
+  then-numbered : (more : Option (ℕ → Answer (List MapEntry))) (m : List ℕ) (at n : ℕ) (b : Bool) → Each more → Numbered P (entryThen more m at n b)
+  unfolding entryThen
+  then-numbered more m at n true k = answer
+  then-numbered none m at n false k = refusal h
+  then-numbered (some f) m at n false (each k) =
+      refuseIf-numbered (ltb (length m) (at + n + 16)) 5 _ h (andThen-numbered (f (at + n + 16)) _ (k (at + n + 16)) λ a. answer)
 
-step-numbered : (more : Option (ℕ → Answer (List MapEntry))) (m : List ℕ) (at : ℕ) (r : Option ℕ) → Each more → Numbered NotZero (mapStep more m at r)
-unfolding mapStep
-step-numbered more m at none h = refusal (lit< tt)
-step-numbered more m at (some n) h = then-numbered more m at n (same (part m at n) endMark) h
+  step-numbered : (more : Option (ℕ → Answer (List MapEntry))) (m : List ℕ) (at : ℕ) (r : Option ℕ) → Each more → Numbered P (mapStep more m at r)
+  unfolding mapStep
+  step-numbered more m at none k = refusal h
+  step-numbered more m at (some n) k = then-numbered more m at n (same (part m at n) endMark) k
 
-from-numbered : (room : ℕ) (m : List ℕ) (at : ℕ) → Numbered NotZero (mapFrom room m at)
-unfolding mapFrom
-from-numbered zero m at = step-numbered none m at (throughMark (drop at m)) nothing
-from-numbered (suc room) m at = step-numbered (some (mapFrom room m)) m at (throughMark (drop at m)) (each (from-numbered room m))
+  from-numbered : (room : ℕ) (m : List ℕ) (at : ℕ) → Numbered P (mapFrom room m at)
+  unfolding mapFrom
+  from-numbered zero m at = step-numbered none m at (throughMark (drop at m)) nothing
+  from-numbered (suc room) m at = step-numbered (some (mapFrom room m)) m at (throughMark (drop at m)) (each (from-numbered room m))
 
-pub map-numbered : (m : List ℕ) → Numbered NotZero (mapEntries m)
+pub map-numbered : (m : List ℕ) (P : ℕ → Type 0) → P why.map → Numbered P (mapEntries m)
 unfolding mapEntries
-map-numbered m = from-numbered mostEntries m 0
+map-numbered m P h = from-numbered P h mostEntries m 0
+
+-- a map has one list of entries
+pub map-unique : (m : List ℕ) (es fs : List MapEntry) → MapOf m es → MapOf m fs → es ≡ fs
+map-unique m es fs x y = given-inj (sym (read-map m es x) ∙ read-map m fs y)
 
 -- ---- the last entry of a name
 

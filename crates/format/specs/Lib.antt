@@ -27,3 +27,5 @@ pub mod Calls
 pub mod Grammar
 -- "Why a file is turned away", as propositions
 pub mod Refused
+-- "Both edges": the starred lines
+pub mod Edges

@@ -1,0 +1,23 @@
+-- The four low bytes, then the four high ones.
+use Rattle.format.proofs.Bytes.{stored-join}
+use borrow.Author.Needs.{needs}
+use Rattle.cursor.proofs.put8.Statement.{statement}
+use Rattle.cursor.proofs.put8.Tie as tie
+
+put4-requires : tie.Need-put4-requires
+put4-requires c κs = search needs
+
+add-put4 : tie.Need-add-put4
+add-put4 c = search needs
+
+put4-requires-2 : tie.Need-put4-requires-2
+put4-requires-2 c κs = search needs
+
+same-length : tie.Need-same-length
+same-length c = search needs
+
+returns : tie.Need-returns
+returns c = stored-join 4 4 _ _ _ (c .before .before .before .before .before .before .put4 .ensures) (c .before .before .put42 .ensures)
+
+pub put8-spec : {M : Type 1} → statement M
+put8-spec = tie.close (tie.spec put4-requires add-put4 put4-requires-2 same-length returns)
