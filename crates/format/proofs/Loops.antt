@@ -17,6 +17,7 @@ use Rattle.format.proofs.Rules.{Gives, States, no-such, none-of, bind-s
 use Rattle.format.proofs.Means.{Means}
 use Rattle.format.proofs.Numbers.{field-in, level-in, unsigned-in, signed-in}
 use Rattle.format.proofs.Lookups.{as-level}
+use Rattle.format.proofs.Lists.{all-take}
 use Rattle.format.specs.Bytes.{ascii}
 use Rattle.format.specs.Values.{Value, flag, whole, double, text, bytes, level, list, valueAt, fieldIn, asLevel, bind}
 use Rattle.format.specs.Numbers.{unsigned, signed}
@@ -42,11 +43,6 @@ valid-by s es n (some (text i k)) = by-none {o = some (text i k)} λ l e. let z 
 valid-by s es n (some (bytes i k)) = by-none {o = some (bytes i k)} λ l e. let z : _≡_ {A = ℕ} 0 1 = cc in omega arith
 valid-by s es n (some (level i)) = by-none {o = some (level i)} λ l e. let z : _≡_ {A = ℕ} 0 1 = cc in omega arith
 valid-by s es n (some (list l)) = by-list
-
-all-take : (P : ℕ → Type 0) (n : ℕ) (l : List ℕ) → All P l → All P (take n l)
-all-take P zero l a = over
-all-take P (suc n) [] a = over
-all-take P (suc n) (i ∷ l) (more h a) = more h (all-take P n l a)
 
 -- what the rules say of the level i, for each thing that `said` may give
 unfoldable pub Told : List ℕ → List Entry → ℕ → Said → Type 0
