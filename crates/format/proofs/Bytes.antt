@@ -1,14 +1,26 @@
--- Laws of the numbers in bytes: read at two widths, written, read back. Assumes nothing.
+-- Laws of bytes: numbers read at two widths, written, read back; parts. Assumes nothing.
 use Prim.Native.Nat.{ℕ, zero, suc, _+_, _*_, _/_, _%_, _^_, _≤_, _<_}
 use mathlib.Core.Path.{_≡_, refl, ap, _∙_}
 use mathlib.Core.List.{List, [], _∷_, _++_}
 use native.Mathlib.Omega.{arith}
 use native.Mathlib.Nat.{add-zero, zero-add, add-suc, suc-add, mul-assoc, pow-suc, pow-succ', pow-le-pow-right, div-one, div-div-eq-div-mul, div-lt-iff-lt-mul}
-use lib.ListN.{length, getD, set, take, drop, length-append, length-take, List·getD-append}
-use lib.Seq.{sets, sets-eq, getD-append-add, getD-set-other}
+use lib.ListN.{length, getD, set, take, drop, length-append, length-take, length-drop, List·getD-append}
+use lib.Seq.{sets, sets-eq, getD-append-add, getD-set-other, getD-take, getD-drop}
 use lib.Arith.{mod-mul}
 use lib.Dec.{lit<}
-use Rattle.format.specs.Bytes.{le, leBytes}
+use Rattle.format.specs.Bytes.{le, leBytes, part}
+
+-- ---- parts
+
+pub part-length : (s : List ℕ) (i n : ℕ) → i + n ≤ length s → length (part s i n) ≡ n
+unfolding part
+part-length s i n h = simp (length-take, length-drop) (omega arith)
+
+pub part-at : (s : List ℕ) (i n k : ℕ) → k < n → getD (part s i n) k 0 ≡ getD s (i + k) 0
+unfolding part
+part-at s i n k h = rw (getD-take, getD-drop)
+
+-- ---- numbers
 
 pub le-one : (s : List ℕ) (i : ℕ) → le 1 s i ≡ getD s i 0
 unfolding le

@@ -3,18 +3,19 @@ use Prim.Native.Nat.{ℕ, zero, suc, _+_, _-_, _*_, _/_, _%_, _^_, _≤_, _<_}
 use mathlib.Core.Path.{_≡_, refl, sym, ap, ap₂, _∙_}
 use mathlib.Core.Bool.{Bool, true, false, cond}
 use mathlib.Core.List.{List, [], _∷_, _++_, append-assoc, append-nil}
-use native.Mathlib.Nat.{mul-le-mul-right, mul-le-mul, mul-assoc, pow-succ', pow-le-pow-right}
+use native.Mathlib.Nat.{mul-le-mul, pow-succ', pow-le-pow-right}
 use native.Mathlib.Omega.{arith}
 use lib.Dec.{ltb}
 use lib.ListN.{length, drop, length-take}
 use borrow.Author.Tests.{ltb-true, ltb-false, lt-ltb}
-use Rattle.format.proofs.Frames.{Below, none, one, index, within-below, seq-different}
+use Rattle.format.proofs.Frames.{seq-different}
+use Rattle.format.proofs.Triples.{seq-below}
 use Rattle.format.specs.Bytes.{ascii}
 use Rattle.format.specs.Loops.{mostCount}
 use Rattle.format.specs.Summary.{loopsOf}
-use Rattle.format.specs.Frames.{indexOf, seqFrom, seqIndex, frames, digitsFrom, decimal, frameName}
+use Rattle.format.specs.Frames.{seqIndex, frames, digitsFrom, decimal, frameName}
 use Rattle.format.specs.Grammar.Frames.{Decimal, digit, digits, FrameName}
-use Rattle.format.specs.Grammar.Loops.{Distinct, Counted}
+use Rattle.format.specs.Grammar.Loops.{Counted}
 use Rattle.format.specs.Grammar.Loops.{nil, cons}
 use Rattle.format.specs.Refused.Summary.{Sound}
 use Rattle.format.specs.Refused.Plane.{Within}
@@ -92,21 +93,6 @@ pub name-different : (n m : ℕ) → n < 10 ^ 20 → m < 10 ^ 20 → frameName n
 name-different n m hn hm e = frame-number-unique (frame-name n hn) (rw e (frame-name m hm))
 
 -- ---- frame numbers have at most 18 digits
-
-seq-bound : (ls : List Loop) (n scene t z : ℕ) → Below (index scene t z) ls → seqFrom n ls scene t z < suc n * frames ls
-unfolding seqFrom frames
-seq-bound [] n scene t z b = omega arith
-seq-bound (l ∷ ls) n scene t z (one h b) =
-    let i = indexOf (l .axis) scene t z in
-    let k = seq-bound ls (n * l .count + i) scene t z b in
-    let j : suc (n * l .count + i) * frames ls ≤ suc n * l .count * frames ls = mul-le-mul-right (frames ls) (omega arith) in
-    let m : suc n * l .count * frames ls ≡ suc n * (l .count * frames ls) = mul-assoc (suc n) (l .count) (frames ls) in
-    omega arith
-
--- the frame number of a triple in range is below the count of frames
-pub seq-below : (ls : List Loop) (scene t z : ℕ) → Distinct ls → Within ls scene t z → seqIndex ls scene t z < frames ls
-unfolding seqIndex
-seq-below ls scene t z d w = let b = seq-bound ls 0 scene t z (within-below ls scene t z d w) in omega arith
 
 frames-bound : (ls : List Loop) → Counted ls → frames ls ≤ mostCount ^ length ls
 unfolding frames

@@ -8,10 +8,12 @@ use mathlib.Core.List.{List, [], _∷_, _++_}
 use native.Mathlib.Nat.{suc-mul, mul-le-mul-right, div-lt-iff-lt-mul, mod-lt, mul-add-div-right, mul-add-mod-self-right, mod-eq-of-lt, div-eq-of-lt, add-zero, zero-mul}
 use native.Mathlib.Omega.{arith}
 use lib.Dec.{ltb, leb}
-use lib.ListN.{length, getD, take, drop, length-append, length-drop, List·getD-append}
-use lib.Seq.{getD-drop, getD-take, getD-append-add, length-take-le}
+use lib.ListN.{length, getD, length-append, List·getD-append}
+use lib.Seq.{getD-append-add}
 use borrow.Author.Tests.{ltb-true, ltb-false, le-ltb, leb-false, lt-leb}
 use Rattle.format.proofs.Tests.{or-left, or-right, or-none}
+use Rattle.format.proofs.Bytes.{part-length, part-at}
+use Rattle.format.proofs.Buffers.{over-at, over-later, over-length}
 use Rattle.format.proofs.Answers.{refuseIf-given, andThen-given, orRefuse-given, given-inj, found, orRefuse-numbered, NotZero}
 use Rattle.format.proofs.Orders.{Decides, gives, decides-if, decides-less, decides-one, decides-then, decides-first, decides-numbered, given-of, nonzero, accepted-iff}
 use Rattle.format.proofs.Chunks.{chunk-read, chunk-numbered}
@@ -184,14 +186,6 @@ module _ (s : List ℕ) (a : Attributes) (start c : ℕ) where
   abbrev place : ℕ → ℕ
   place j = samplePlace a start c (j / a .width) (j % a .width)
 
-  one-length : (i : ℕ) → i + size ≤ length s → length (part s i size) ≡ size
-  unfolding part
-  one-length i h = length-take-le size (drop i s) (simp length-drop (omega arith))
-
-  one-at : (i k : ℕ) → k < size → getD (part s i size) k 0 ≡ getD s (i + k) 0
-  unfolding part
-  one-at i k h = rw (getD-take, getD-drop) refl
-
   -- n samples from sample j on are whole
   Whole : ℕ → ℕ → Type 0
   Whole n j = (i : ℕ) → i < n → place (j + i) + size ≤ length s
@@ -208,7 +202,7 @@ module _ (s : List ℕ) (a : Attributes) (start c : ℕ) where
   unfolding samples
   samples-length zero j h = sym (zero-mul size)
   samples-length (suc n) j h =
-      let e₁ = one-length (place j) (whole-first n j h) in
+      let e₁ = part-length s (place j) size (whole-first n j h) in
       let e₂ = samples-length n (suc j) (whole-rest n j h) in
       rw (length-append, e₁, e₂) (omega arith)
 
@@ -217,12 +211,12 @@ module _ (s : List ℕ) (a : Attributes) (start c : ℕ) where
   samples-at zero j i k h l m = absurd (omega arith)
   samples-at (suc n) j zero k h l m =
       let e : 0 * size + k ≡ k = omega arith in
-      let e₁ = one-length (place j) (whole-first n j h) in
+      let e₁ = part-length s (place j) size (whole-first n j h) in
       let l : k < length (part s (place j) size) = rw e₁ m in
-      rw (e, List·getD-append (part s (place j) size) (samples n s a start c (suc j)) 0 k l, add-zero) (one-at (place j) k m)
+      rw (e, List·getD-append (part s (place j) size) (samples n s a start c (suc j)) 0 k l, add-zero) (part-at s (place j) size k m)
   samples-at (suc n) j (suc i) k h l m =
       let x = part s (place j) size in
-      let e₁ : length x ≡ size = one-length (place j) (whole-first n j h) in
+      let e₁ : length x ≡ size = part-length s (place j) size (whole-first n j h) in
       let e : suc i * size + k ≡ length x + (i * size + k) = rw e₁ (omega arith) in
       let e₂ : suc j + i ≡ j + suc i = omega arith in
       rw (e, getD-append-add x (samples n s a start c (suc j)) (i * size + k) 0, ← e₂) (samples-at n (suc j) i k (whole-rest n j h) (omega arith) m)
@@ -239,25 +233,6 @@ sample-within a len c y x g h₂ h₃ hc hy hx =
     let k₅ : a .width * a .components * size ≤ a .stride = g .row-fits in
     let k₆ : (x * a .components + c) * size + size ≤ a .width * a .components * size = rw suc-mul at k₄ in
     omega arith
-
--- a byte of a chunk's data, in the file
-data-at : (s : List ℕ) (r : Range) (i : ℕ) → i < r .len → getD (dataIn s r) i 0 ≡ getD s (r .start + i) 0
-unfolding part
-data-at s r i h = rw (getD-take, getD-drop) refl
-
-over-at : (xs buf : List ℕ) (i : ℕ) → i < length xs → getD (over xs buf) i 0 ≡ getD xs i 0
-unfolding over
-over-at xs buf i h = List·getD-append xs (drop (length xs) buf) 0 i h
-
-over-later : (xs buf : List ℕ) (i : ℕ) → length xs ≤ i → getD (over xs buf) i 0 ≡ getD buf i 0
-unfolding over
-over-later xs buf i h =
-    let e : i ≡ length xs + (i - length xs) = omega arith in
-    rw e (getD-append-add xs (drop (length xs) buf) (i - length xs) 0 ∙ getD-drop (length xs) buf (i - length xs) 0)
-
-over-length : (xs buf : List ℕ) → length xs ≤ length buf → length (over xs buf) ≡ length buf
-unfolding over
-over-length xs buf h = rw (length-append, length-drop) (omega arith)
 
 -- what an accepted call has found
 record Ready (s : List ℕ) (u : Summary) (scene t c z : ℕ) (buf : List ℕ) (r : Range) : Type 0 where
@@ -348,7 +323,7 @@ module _ (s : List ℕ) (u : Summary) (scene t c z : ℕ) (buf : List ℕ) where
           let k₅ : j < r .len = omega arith in
           let e₃ : r .start + j ≡ samplePlace a (r .start) c y x + k = omega arith in
           let e₄ : getD s (samplePlace a (r .start) c ((0 + i) / u .width) ((0 + i) % u .width) + k) 0 ≡ getD s (r .start + j) 0 = rw (e₀, e₁, e₂, ← e₃) refl in
-          over-at all buf (i * size + k) k₃ ∙ (samples-at s a (r .start) c (u .width * u .height) 0 i k whole below hk ∙ (e₄ ∙ sym (data-at s r j k₅)))
+          over-at all buf (i * size + k) k₃ ∙ (samples-at s a (r .start) c (u .width * u .height) 0 i k whole below hk ∙ (e₄ ∙ sym (part-at s (r .start) (r .len) j k₅)))
 
   -- Where the plane call gives 0, every sample's bytes are those of its frame's chunk, and later bytes are as they were.
   pub plane-sample : planeCall s u scene t c z buf .number ≡ 0
