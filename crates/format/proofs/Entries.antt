@@ -28,6 +28,13 @@ module _ (s : List ℕ) (u : Summary) (es : List MapEntry) (map : mapEntries (ma
   pub read-entry : (name : List ℕ) (o : ℕ) → NameEntry s u name o → offsetOf (mapOf s u) name es ≡ some o
   read-entry name o x = rw (map-unique _ es (x .entries) (map-read _ es map) (x .map-of)) (read-listed _ name (x .entries) o (x .listed))
 
+  -- a name's data is that of its one entry
+  pub entry-chunk : (name : List ℕ) (o : ℕ) (r : Range) → offsetOf (mapOf s u) name es ≡ some o → NameData s u name r → chunkData [] s o ≡ given r
+  entry-chunk name o r e x =
+      let q = sym (read-entry name (x .offset) (x .entry)) ∙ e in
+      let k : x .offset ≡ o = cc in
+      rw (← k) (read-chunk [] s (x .offset) r (x .chunk))
+
   pub data-read : (name : List ℕ) (r : Range) → namedChunk s (mapOf s u) es name ≡ given r → NameData s u name r
   unfolding namedChunk
   data-read name r e =
@@ -48,14 +55,11 @@ module _ (s : List ℕ) (u : Summary) (es : List MapEntry) (map : mapEntries (ma
         let x = entry-read (frameName n) o e in
         record { entries = x .entries; map-of = x .map-of; name = frameName n; name-of = frame-name n short; listed = x .listed }
 
-    pub entry-frame : (o : ℕ) → FrameEntry s u n o → offsetOf (mapOf s u) (frameName n) es ≡ some o
-    entry-frame o x =
-        rw (frame-name-unique (frame-name n short) (x .name-of))
-        (read-entry (x .name) o (record { entries = x .entries; map-of = x .map-of; listed = x .listed }))
+    as-name : (o : ℕ) → FrameEntry s u n o → NameEntry s u (frameName n) o
+    as-name o x = rw (frame-name-unique (frame-name n short) (x .name-of)) (record { entries = x .entries; map-of = x .map-of; listed = x .listed })
 
-    -- a frame's data is that of its one entry
+    pub entry-frame : (o : ℕ) → FrameEntry s u n o → offsetOf (mapOf s u) (frameName n) es ≡ some o
+    entry-frame o x = read-entry (frameName n) o (as-name o x)
+
     pub frame-chunk : (o : ℕ) (r : Range) → offsetOf (mapOf s u) (frameName n) es ≡ some o → FrameData s u n r → chunkData [] s o ≡ given r
-    frame-chunk o r e x =
-        let q : some (x .offset) ≡ some o = sym (entry-frame (x .offset) (x .entry)) ∙ e in
-        let k : x .offset ≡ o = cc in
-        rw (← k) (read-chunk [] s (x .offset) r (x .chunk))
+    frame-chunk o r e x = entry-chunk (frameName n) o r e (record { offset = x .offset; entry = as-name (x .offset) (x .entry); chunk = x .chunk })

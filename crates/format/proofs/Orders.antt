@@ -70,6 +70,12 @@ module _ {P : ℕ → Type 0} {A : Type 0} where
   decides-first gives = accepted
   decides-first (goes h d) = passed h (decides-first d)
 
+  -- P holds of a refusal's number
+  pub decides-holds : {ns : List ℕ} {x : Answer A} {n : ℕ} → Decides P ns x → x ≡ refused n → P n
+  decides-holds {n = n} (stops {n = m} h) e = let k : m ≡ n = cc in rw k at h
+  decides-holds gives e = absurd (let z : _≡_ {A = ℕ} 0 1 = cc in omega arith)
+  decides-holds (goes h d) e = decides-holds d e
+
   -- a refusal's number is one of the order's
   pub decides-numbered : {Q : ℕ → Type 0} {ns : List ℕ} {x : Answer A} → All Q ns → Decides P ns x → Numbered Q x
   decides-numbered (more q qs) (stops h) = refusal q
@@ -84,14 +90,22 @@ given-of x (answer {a = a}) e = (a, refl)
 
 -- ---- the number 0
 
--- whether no number is 0
-abbrev pub someEach : List ℕ → Bool
-someEach [] = true
-someEach (n ∷ ns) = ltb 0 n && someEach ns
+-- whether each number passes a test
+abbrev pub each : (ℕ → Bool) → List ℕ → Bool
+each f [] = true
+each f (n ∷ ns) = f n && each f ns
 
-pub nonzero : (ns : List ℕ) → someEach ns ≡ true → All NotZero ns
-nonzero [] e = over
-nonzero (n ∷ ns) e = more (ltb-true 0 n (and-left (ltb 0 n) (someEach ns) e)) (nonzero ns (and-right (ltb 0 n) (someEach ns) e))
+pub all-by : {Q : ℕ → Type 0} (f : ℕ → Bool) → ((n : ℕ) → f n ≡ true → Q n) → (ns : List ℕ) → each f ns ≡ true → All Q ns
+all-by f g [] e = over
+all-by f g (n ∷ ns) e = more (g n (and-left (f n) (each f ns) e)) (all-by f g ns (and-right (f n) (each f ns) e))
+
+pub nonzero : (ns : List ℕ) → each (ltb 0) ns ≡ true → All NotZero ns
+nonzero ns e = all-by (ltb 0) (ltb-true 0) ns e
+
+-- what holds of each holds of one
+pub all-in : {Q : ℕ → Type 0} {ns : List ℕ} {n : ℕ} → All Q ns → In n ns → Q n
+all-in (more q qs) here = q
+all-in (more q qs) (behind i) = all-in qs i
 
 module _ {P : ℕ → Type 0} where
   first-none : {ns : List ℕ} {n : ℕ} → First P ns n → All NotZero ns → n ≡ 0 → (k : ℕ) → In k ns → P k → ⊥

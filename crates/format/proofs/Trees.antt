@@ -14,6 +14,8 @@ use Rattle.format.specs.Bytes.{le, part}
 use Rattle.format.specs.Text.{units}
 use Rattle.format.specs.declared.Range.{Range}
 use Rattle.format.specs.Trees.{Stop, at, fault, Read, ends, entered, pick, stopIf, follow, then, fixedValue, textUnits, textValue, bytesValue, levelEnd, Children, childrenOr9, levelValue, fixedLen, value, known, ChildrenAt, entryOf, recordAt, records, childrenAt, read, treeIn, mostItems, mostDepth, packedType}
+use Rattle.format.specs.Grammar.Lists.{In}
+use Rattle.format.specs.Grammar.Lists.{here as first, behind as further}
 use Rattle.format.specs.Grammar.Trees.{valueStart, Head, Fixed, bool, i32, u32, i64, u64, f64, pointer, Units, Plain, fixed, text-ended, text-cut, bytes, countAt, kidsFrom, kidsTo, levelTo, Level, Records, counted, quiet, plain, nested, Kind, of-value, of-level, Judged, Wrong, packed-type, type-0, type-10, name-cut, unknown, number-cut, bytes-cut, count-cut, items-over, length-cut, length-under, kids-cut, too-deep, Faults, here, behind-plain, behind-level, inside, skip-cut, Passes, none-yet, this, this-and-more, this-and-inside, level-and-more, PassedIn, Tree, Faulty}
 use Rattle.format.specs.Refusals as why
 use Rattle.format.specs.declared.Entry.{Entry}
@@ -804,6 +806,35 @@ module _ (d : List ℕ) (base : ℕ) where
   children-formed zero used = deepest
   children-formed (suc left) used = deeper λ count from to. records-formed left (childrenAt left d base) (children-formed left) (suc used) count (suc used) from to
 
+-- ---- the faults' numbers
+
+abbrev pub treeFaults : List ℕ
+treeFaults = why.cut ∷ why.kind ∷ why.packed ∷ why.deep ∷ why.level ∷ []
+
+wrong-number : (d : List ℕ) (i e left n : ℕ) → Wrong d i e left n → In n treeFaults
+wrong-number d i e left n (packed-type k) = further (further first)
+wrong-number d i e left n (type-0 k) = further first
+wrong-number d i e left n (type-10 k) = further first
+wrong-number d i e left n (name-cut j h) = first
+wrong-number d i e left n (unknown h j u) = further first
+wrong-number d i e left n (number-cut h w l) = first
+wrong-number d i e left n (bytes-cut h l) = first
+wrong-number d i e left n (count-cut h l) = first
+wrong-number d i e left n (items-over h k l) = further (further (further (further first)))
+wrong-number d i e left n (length-cut h k l m) = first
+wrong-number d i e left n (length-under h k l m) = further (further (further (further first)))
+wrong-number d i e left n (kids-cut h k l m o) = first
+wrong-number d i e left n (too-deep l) = further (further (further first))
+
+faults-number : (d : List ℕ) (base left parent count used i e n : ℕ) → Faults d base left parent count used i e n → In n treeFaults
+faults-number d base left parent count used i e n (here h w) = wrong-number d i e left n w
+faults-number d base left parent count used i e n (behind-plain {count = m} {p = p} h v r) = faults-number d base left parent m (used + 1) p e n r
+faults-number d base left parent count used i e n (behind-level {left = l′} {count = m} {ks = ks} l k h r) =
+    faults-number d base (suc l′) parent m (used + suc (length ks)) (levelTo d i) e n r
+faults-number d base left parent count used i e n (inside {left = l′} l r) =
+    faults-number d base l′ (suc used) (countAt d i) (suc used) (kidsFrom d i) (kidsTo d i) n r
+faults-number d base left parent count used i e n (skip-cut l k h) = first
+
 -- ---- trees
 
 module _ (s : List ℕ) (r : Range) where
@@ -836,6 +867,10 @@ module _ (s : List ℕ) (r : Range) where
   read-fault n x =
       let d = part s (r .start) (r .len) in
       faults-read d (r .start) mostDepth 0 1 0 0 (length d) n x
+
+  -- its number is one of a tree's
+  pub fault-number : (n : ℕ) → Faulty s r n → In n treeFaults
+  fault-number n x = let d = part s (r .start) (r .len) in faults-number d (r .start) mostDepth 0 1 0 0 (length d) n x
 
   -- the entries are the records whose type and name pass, before the end or the first fault
   pub passed-read : PassedIn s r (length (treeIn s r .entries))
