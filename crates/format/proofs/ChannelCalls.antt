@@ -1,5 +1,5 @@
 -- A channels call's number is the first of its refusals in order, and what a refused one leaves. Assumes nothing.
-use Prim.Native.Nat.{ℕ, _/_, _≤_, _<_}
+use Prim.Native.Nat.{ℕ, _<_}
 use mathlib.Core.Path.{_≡_, refl, sym, ap, _∙_}
 use mathlib.Core.Logic.{_↔_}
 use mathlib.Core.Bool.{Bool, true, false, cond}
@@ -14,7 +14,7 @@ use Rattle.format.proofs.Orders.{Decides, stops, gives, goes, decides-i
 use Rattle.format.proofs.Maps.{map-read, read-map, map-numbered}
 use Rattle.format.proofs.Summaries.{sound-read, unsound}
 use Rattle.format.proofs.TreeCalls.{named-decides, read-short, says-table}
-use Rattle.format.specs.Answer.{Answer, refused, given, refuseIf, andThen, numberOf}
+use Rattle.format.specs.Answer.{Answer, refused, given, numberOf}
 use Rattle.format.specs.Bytes.{ascii, zeros}
 use Rattle.format.specs.Refusals as why
 use Rattle.format.specs.Map.{MapEntry, mapEntries}

@@ -3,7 +3,7 @@ use Prim.Native.Nat.{ℕ, _^_, _<_}
 use mathlib.Core.Path.{_≡_, sym, _∙_}
 use mathlib.Core.Option.{some}
 use mathlib.Core.List.{List, []}
-use Rattle.format.proofs.Answers.{andThen-given, orRefuse-given, given-inj, go-on, found}
+use Rattle.format.proofs.Answers.{andThen-given, orRefuse-given, go-on, found}
 use Rattle.format.proofs.Chunks.{chunk-read, read-chunk}
 use Rattle.format.proofs.Maps.{map-read, map-unique, listed-read, read-listed}
 use Rattle.format.proofs.Names.{frame-name, frame-name-unique}

@@ -1,6 +1,6 @@
 -- A frame's name is the grammar's, and different frames have different names in the map. Assumes nothing.
 use Prim.Native.Nat.{ℕ, zero, suc, _+_, _-_, _*_, _/_, _%_, _^_, _≤_, _<_}
-use mathlib.Core.Path.{_≡_, refl, sym, ap, ap₂, _∙_}
+use mathlib.Core.Path.{_≡_, refl, sym, ap, _∙_}
 use mathlib.Core.Bool.{Bool, true, false, cond}
 use mathlib.Core.List.{List, [], _∷_, _++_, append-assoc, append-nil}
 use native.Mathlib.Nat.{mul-le-mul, pow-succ', pow-le-pow-right}
@@ -16,7 +16,7 @@ use Rattle.format.specs.Summary.{loopsOf}
 use Rattle.format.specs.Frames.{seqIndex, frames, digitsFrom, decimal, frameName}
 use Rattle.format.specs.Grammar.Frames.{Decimal, digit, digits, FrameName}
 use Rattle.format.specs.Grammar.Loops.{Counted}
-use Rattle.format.specs.Grammar.Loops.{nil, cons}
+use Rattle.format.specs.Grammar.Loops.{cons}
 use Rattle.format.specs.Refused.Summary.{Sound}
 use Rattle.format.specs.Refused.Plane.{Within}
 use Rattle.format.specs.declared.Loop.{Loop}

@@ -1,6 +1,6 @@
 -- A chain of refusals gives the first one that holds, and 0 where none does. Assumes nothing.
 use Prim.Native.Nat.{ℕ, _<_}
-use mathlib.Core.Path.{_≡_, refl, sym, ap, _∙_}
+use mathlib.Core.Path.{_≡_, refl}
 use mathlib.Core.Logic.{_↔_}
 use mathlib.Core.Bool.{Bool, true, false, _&&_}
 use mathlib.Core.List.{List, [], _∷_, _++_}
@@ -76,17 +76,12 @@ module _ {P : ℕ → Type 0} {A : Type 0} where
   decides-holds gives e = absurd (let z : _≡_ {A = ℕ} 0 1 = cc in omega arith)
   decides-holds (goes h d) e = decides-holds d e
 
-  -- a refusal's number is one of the order's
-  pub decides-numbered : {Q : ℕ → Type 0} {ns : List ℕ} {x : Answer A} → All Q ns → Decides P ns x → Numbered Q x
-  decides-numbered (more q qs) (stops h) = refusal q
-  decides-numbered qs gives = answer
-  decides-numbered (more q qs) (goes h d) = decides-numbered qs d
-
--- a number that is 0 is an answer's
-pub given-of : {A : Type 0} (x : Answer A) → Numbered NotZero x → numberOf x ≡ 0 → (a : A) × (x ≡ given a)
-unfolding numberOf
-given-of x (refusal {n = n} h) e = absurd (omega arith)
-given-of x (answer {a = a}) e = (a, refl)
+  -- a number that is 0 is an answer's
+  pub decides-given : {ns : List ℕ} {x : Answer A} → All NotZero ns → Decides P ns x → numberOf x ≡ 0 → (a : A) × (x ≡ given a)
+  unfolding numberOf
+  decides-given (more q qs) (stops {n = n} h) e = absurd (omega arith)
+  decides-given qs (gives {a = a}) e = (a, refl)
+  decides-given (more q qs) (goes h d) e = decides-given qs d e
 
 -- ---- the number 0
 

@@ -1,21 +1,20 @@
 -- A plane call's number is the first of its refusals in order, and what an accepted one has written. Assumes nothing.
 use Prim.Native.Nat.{ℕ, zero, suc, _+_, _-_, _*_, _/_, _%_, _^_, _≤_, _<_}
-use mathlib.Core.Path.{_≡_, refl, sym, ap, _∙_}
+use mathlib.Core.Path.{_≡_, refl, sym, _∙_}
 use mathlib.Core.Logic.{_↔_}
-use mathlib.Core.Bool.{true, false, _||_, true≢false}
-use mathlib.Core.Option.{some}
-use mathlib.Core.List.{List, [], _∷_, _++_}
+use mathlib.Core.Bool.{false, _||_, true≢false}
+use mathlib.Core.List.{List, [], _∷_}
 use native.Mathlib.Nat.{suc-mul, mul-le-mul-right, div-lt-iff-lt-mul, mod-lt, mul-add-div-right, mul-add-mod-self-right, mod-eq-of-lt, div-eq-of-lt, add-zero, zero-mul}
 use native.Mathlib.Omega.{arith}
 use lib.Dec.{ltb, leb}
 use lib.ListN.{length, getD, length-append, List·getD-append}
 use lib.Seq.{getD-append-add}
-use borrow.Author.Tests.{ltb-true, ltb-false, le-ltb, leb-false, lt-leb}
+use borrow.Author.Tests.{ltb-false, le-ltb, leb-false, lt-leb}
 use Rattle.format.proofs.Tests.{or-left, or-right, or-none}
 use Rattle.format.proofs.Bytes.{part-length, part-at}
 use Rattle.format.proofs.Buffers.{over-at, over-later, over-length}
-use Rattle.format.proofs.Answers.{refuseIf-given, andThen-given, orRefuse-given, given-inj, found, orRefuse-numbered, NotZero}
-use Rattle.format.proofs.Orders.{Decides, gives, decides-if, decides-less, decides-one, decides-then, decides-first, decides-numbered, given-of, nonzero, accepted-iff}
+use Rattle.format.proofs.Answers.{refuseIf-given, andThen-given, orRefuse-given, given-inj, found, orRefuse-numbered}
+use Rattle.format.proofs.Orders.{Decides, gives, decides-if, decides-less, decides-one, decides-then, decides-first, decides-given, nonzero, accepted-iff}
 use Rattle.format.proofs.Chunks.{chunk-read, chunk-numbered}
 use Rattle.format.proofs.Maps.{map-read, read-map, map-numbered}
 use Rattle.format.proofs.Summaries.{sound-read, unsound}
@@ -33,7 +32,6 @@ use Rattle.format.specs.Calls.Plane.{samples, badIndex, badFrame, frameO
 use Rattle.format.specs.Calls.Plane.{ceiling as most}
 use Rattle.format.specs.Grammar.Lists.{In, here, behind}
 use Rattle.format.specs.Grammar.Attributes.{Shape}
-use Rattle.format.specs.Grammar.Chunks.{Chunk}
 use Rattle.format.specs.Grammar.Map.{MapOf}
 use Rattle.format.specs.Refused.Order.{First}
 use Rattle.format.specs.Refused.Summary.{Sound}
@@ -91,8 +89,8 @@ module _ (s : List ℕ) (u : Summary) (scene t c z : ℕ) (buf : List ℕ) where
   abbrev R : ℕ → Type 0
   R = PlaneRefusal s u scene t c z buf
 
-  abbrev n : ℕ
-  n = seqIndex (loopsOf u) scene t z
+  abbrev seq : ℕ
+  seq = seqIndex (loopsOf u) scene t z
 
   -- what each refusal says
   says-summary : R why.summary → Sound s u → ⊥
@@ -107,36 +105,36 @@ module _ (s : List ℕ) (u : Summary) (scene t c z : ℕ) (buf : List ℕ) where
   says-map : R why.map → (es : List MapEntry) → MapOf (mapOf s u) es → ⊥
   says-map (map f) = f
 
-  says-frame : R why.noFrame → (o : ℕ) → FrameEntry s u n o → ⊥
+  says-frame : R why.noFrame → (o : ℕ) → FrameEntry s u seq o → ⊥
   says-frame (no-frame f) = f
 
-  says-chunk : R why.chunk → (r : Range) → FrameData s u n r → ⊥
+  says-chunk : R why.chunk → (r : Range) → FrameData s u seq r → ⊥
   says-chunk (chunk f) = f
 
-  says-short : R why.frameShort → (r : Range) → FrameData s u n r → FrameLong u r → ⊥
+  says-short : R why.frameShort → (r : Range) → FrameData s u seq r → FrameLong u r → ⊥
   says-short (frame-short f) = f
 
   says-buffer : R why.buffer → length buf < planeBytes (shapeOf u)
   says-buffer (buffer h) = h
 
   -- the frame's entry, its chunk and the chunk's length
-  entry-decides : (es : List MapEntry) → mapEntries (mapOf s u) ≡ given es → n < 10 ^ 20
+  entry-decides : (es : List MapEntry) → mapEntries (mapOf s u) ≡ given es → seq < 10 ^ 20
       → Decides R (why.noFrame ∷ why.chunk ∷ why.frameShort ∷ [])
-      (andThen (orRefuse (offsetOf (mapOf s u) (frameName n) es) why.noFrame) λ o.
+      (andThen (orRefuse (offsetOf (mapOf s u) (frameName seq) es) why.noFrame) λ o.
       andThen (chunkData [] s o) λ r. refuseIf (badFrame u (r .len)) why.frameShort (given r))
   entry-decides es e l =
-      decides-then {ns = why.noFrame ∷ []} (orRefuse (offsetOf (mapOf s u) (frameName n) es) why.noFrame) _
+      decides-then {ns = why.noFrame ∷ []} (orRefuse (offsetOf (mapOf s u) (frameName seq) es) why.noFrame) _
       (decides-one why.noFrame _ (orRefuse-numbered _ why.noFrame refl)
-      (λ f. no-frame λ o x. f o (found _ why.noFrame o (entry-frame s u es e n l o x)))
-      (λ o q p. says-frame p o (frame-entry s u es e n l o (orRefuse-given _ why.noFrame q)))) λ o q₁.
-      let e₁ = orRefuse-given (offsetOf (mapOf s u) (frameName n) es) why.noFrame q₁ in
-      let data-at : (r : Range) → chunkData [] s o ≡ given r → FrameData s u n r =
-      λ r q. record { offset = o; entry = frame-entry s u es e n l o e₁; chunk = chunk-read [] s o r q } in
+      (λ f. no-frame λ o x. f o (found _ why.noFrame o (entry-frame s u es e seq l o x)))
+      (λ o q p. says-frame p o (frame-entry s u es e seq l o (orRefuse-given _ why.noFrame q)))) λ o q₁.
+      let e₁ = orRefuse-given (offsetOf (mapOf s u) (frameName seq) es) why.noFrame q₁ in
+      let data-at : (r : Range) → chunkData [] s o ≡ given r → FrameData s u seq r =
+      λ r q. record { offset = o; entry = frame-entry s u es e seq l o e₁; chunk = chunk-read [] s o r q } in
       decides-then {ns = why.chunk ∷ []} (chunkData [] s o) _
-      (decides-one why.chunk _ (chunk-numbered [] s o (λ m. m ≡ why.chunk) refl) (λ f. chunk λ r x. f r (frame-chunk s u es e n l o r e₁ x))
+      (decides-one why.chunk _ (chunk-numbered [] s o (λ m. m ≡ why.chunk) refl) (λ f. chunk λ r x. f r (frame-chunk s u es e seq l o r e₁ x))
       (λ r q p. says-chunk p r (data-at r q))) λ r q₂.
       decides-if (badFrame u (r .len)) why.frameShort _
-      (λ q. frame-short λ r′ x y. let k : r′ ≡ r = given-inj (sym (frame-chunk s u es e n l o r′ e₁ x) ∙ q₂) in true≢false (sym q ∙ read-long u r (rw k at y)))
+      (λ q. frame-short λ r′ x y. let k : r′ ≡ r = given-inj (sym (frame-chunk s u es e seq l o r′ e₁ x) ∙ q₂) in true≢false (sym q ∙ read-long u r (rw k at y)))
       (λ q p. says-short p r (data-at r q₂) (long-read u r q)) λ q₃. gives
 
   plane-decides : Decides R planeOrder (frameFor s u scene t c z (length buf))
@@ -331,7 +329,7 @@ module _ (s : List ℕ) (u : Summary) (scene t c z : ℕ) (buf : List ℕ) where
   unfolding planeCall planeBy planeSamples
   plane-sample e =
       let x = frameFor s u scene t c z (length buf) in
-      let (r, q) = given-of x (decides-numbered (nonzero planeOrder refl) (plane-decides s u scene t c z buf)) (sym (by-number s u scene t c z buf x) ∙ e) in
+      let (r, q) = decides-given (nonzero planeOrder refl) (plane-decides s u scene t c z buf) (sym (by-number s u scene t c z buf x) ∙ e) in
       by r q
     where
       by : (r : Range) → frameFor s u scene t c z (length buf) ≡ given r

@@ -1,6 +1,6 @@
 -- A register call's number is the first of its refusals in order, and what an accepted one has written. Assumes nothing.
 use Prim.Native.Nat.{ℕ, zero, suc, _+_, _*_, _^_, _≤_, _<_}
-use mathlib.Core.Path.{_≡_, refl, sym, ap, _∙_}
+use mathlib.Core.Path.{_≡_, refl, sym, _∙_}
 use mathlib.Core.Logic.{_↔_, _⊎_, inl, inr}
 use mathlib.Core.Bool.{Bool, true, false, _||_, true≢false}
 use mathlib.Core.Option.{Option, none, some}
@@ -9,17 +9,17 @@ use native.Mathlib.Nat.{add-zero, zero-add}
 use native.Mathlib.Omega.{arith}
 use lib.Dec.{ltb}
 use lib.ListN.{length, drop, length-append}
-use borrow.Author.Tests.{ltb-true, ltb-false, lt-ltb}
+use borrow.Author.Tests.{ltb-true, ltb-false}
 use Rattle.format.proofs.Tests.{or-left, or-right}
 use Rattle.format.proofs.Buffers.{part-first, part-behind, over-later, over-length}
-use Rattle.format.proofs.Answers.{none≢some, refuseIf-given, andThen-given, given-inj}
-use Rattle.format.proofs.Orders.{Decides, gives, decides-if, decides-one, decides-then, decides-first, decides-numbered, given-of, nonzero, accepted-iff}
+use Rattle.format.proofs.Answers.{none≢some, refuseIf-given, andThen-given}
+use Rattle.format.proofs.Orders.{Decides, gives, decides-if, decides-one, decides-then, decides-first, decides-given, nonzero, accepted-iff}
 use Rattle.format.proofs.Maps.{map-read, read-map, map-numbered}
 use Rattle.format.proofs.Summaries.{sound-read, unsound}
 use Rattle.format.proofs.Triples.{number-triple}
 use Rattle.format.proofs.Names.{frames-digits}
 use Rattle.format.proofs.Entries.{frame-entry, entry-frame}
-use Rattle.format.specs.Answer.{Answer, refused, given, refuseIf, andThen, numberOf}
+use Rattle.format.specs.Answer.{Answer, refused, given, numberOf}
 use Rattle.format.specs.Bytes.{leBytes, part, over, most64}
 use Rattle.format.specs.Refusals as why
 use Rattle.format.specs.Map.{MapEntry, mapEntries, offsetOf}
@@ -187,7 +187,7 @@ module _ (s : List ℕ) (u : Summary) (buf : List ℕ) where
   unfolding registerCall registerBy
   register-frames e =
       let x = registered s u (length buf) in
-      let (es, q) = given-of x (decides-numbered (nonzero registerOrder refl) (register-decides s u buf)) (sym (by-number s u buf x) ∙ e) in
+      let (es, q) = decides-given (nonzero registerOrder refl) (register-decides s u buf) (sym (by-number s u buf x) ∙ e) in
       by es q
     where
       by : (es : List MapEntry) → registered s u (length buf) ≡ given es → Registered s u buf (registerBy s u buf (registered s u (length buf)) .buffer)

@@ -1,5 +1,5 @@
 -- A tree call's number is the first of its refusals in order, and what its table holds. Assumes nothing.
-use Prim.Native.Nat.{ℕ, _/_, _≤_, _<_}
+use Prim.Native.Nat.{ℕ, _≤_}
 use mathlib.Core.Path.{_≡_, refl, sym, ap, _∙_, subst}
 use mathlib.Core.Logic.{_↔_}
 use mathlib.Core.Bool.{Bool, true, false, cond, _&&_}
@@ -9,15 +9,15 @@ use lib.Dec.{leb}
 use lib.ListN.{length, take}
 use borrow.Author.Tests.{leb-true, leb-false, lt-leb}
 use Rattle.format.proofs.Tests.{and-left, and-right}
-use Rattle.format.proofs.Answers.{refused≢given, refuseIf-given, andThen-given, orRefuse-given, given-inj, found, go-on, orRefuse-numbered}
+use Rattle.format.proofs.Answers.{refuseIf-given, andThen-given, orRefuse-given, given-inj, found, go-on, orRefuse-numbered}
 use Rattle.format.proofs.Reading.{whole-read}
-use Rattle.format.proofs.Orders.{Decides, stops, gives, goes, decides-if, decides-one, decides-then, decides-none, decides-only, decides-first, decides-numbered, given-of, all-by, all-in, nonzero, accepted-iff}
+use Rattle.format.proofs.Orders.{Decides, stops, goes, decides-if, decides-one, decides-then, decides-none, decides-only, decides-first, decides-given, all-by, all-in, nonzero, accepted-iff}
 use Rattle.format.proofs.Chunks.{chunk-read, chunk-numbered}
 use Rattle.format.proofs.Maps.{map-read, read-map, map-numbered}
 use Rattle.format.proofs.Summaries.{sound-read, unsound}
 use Rattle.format.proofs.Trees.{treeFaults, tree-read, fault-read, read-fault, fault-number, passed-read, read-passed, at≢fault, fault-inj}
 use Rattle.format.proofs.Entries.{entry-read, read-entry, entry-chunk, data-read, read-data}
-use Rattle.format.specs.Answer.{Answer, refused, given, refuseIf, andThen, orRefuse, numberOf}
+use Rattle.format.specs.Answer.{Answer, refused, given, orRefuse, numberOf}
 use Rattle.format.specs.Bytes.{over, zeros}
 use Rattle.format.specs.Refusals as why
 use Rattle.format.specs.Map.{MapEntry, mapEntries, offsetOf, namedChunk}
@@ -191,7 +191,7 @@ module _ (s : List ℕ) (u : Summary) (name bytes : List ℕ) where
   unfolding treeCall treeBy
   tree-table e =
       let x = treeNamed s u name (roomIn (length bytes)) in
-      let (es, q) = given-of x (decides-numbered (nonzero treeOrder refl) (tree-decides s u name (roomIn (length bytes)))) (sym (by-number (length bytes) x) ∙ e) in
+      let (es, q) = decides-given (nonzero treeOrder refl) (tree-decides s u name (roomIn (length bytes))) (sym (by-number (length bytes) x) ∙ e) in
       let (r, y, z) = whole es q in
       (r, es, y, z, ap (λ (a : Answer (List Entry)). treeBy (length bytes) a .buffer) q)
 

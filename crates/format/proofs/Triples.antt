@@ -1,18 +1,17 @@
 -- The frame numbers of the triples in range are the numbers below the count of frames, each of one triple. Assumes nothing.
-use Prim.Native.Nat.{ℕ, zero, suc, _+_, _*_, _/_, _%_, _≤_, _<_}
+use Prim.Native.Nat.{ℕ, suc, _+_, _*_, _/_, _%_, _≤_, _<_}
 use mathlib.Core.Path.{_≡_, refl, sym, ap, _∙_}
 use mathlib.Core.Bool.{Bool, true, false, cond, true≢false}
 use mathlib.Core.List.{List, [], _∷_}
 use native.Mathlib.Nat.{mul-le-mul-right, mul-assoc, mul-pos, mod-lt, mod-eq-of-lt, add-mul}
 use native.Mathlib.Omega.{arith}
 use lib.Arith.{mod-mul}
-use lib.Dec.{eqb}
 use borrow.Author.Tests.{eqb-true, eq-eqb}
-use Rattle.format.proofs.Frames.{Below, none, one, index, within-below, axis-number, free-has, seq-different}
+use Rattle.format.proofs.Frames.{Below, one, index, within-below, axis-number, free-has, seq-different}
 use Rattle.format.specs.Loops.{hasAxis, axisNumber, sameAxis}
 use Rattle.format.specs.Frames.{countOf, indexOf, seqFrom, seqIndex, frames, indexAt}
-use Rattle.format.specs.Grammar.Loops.{Free, Distinct, Counted}
-use Rattle.format.specs.Grammar.Loops.{nil, cons}
+use Rattle.format.specs.Grammar.Loops.{Distinct, Counted}
+use Rattle.format.specs.Grammar.Loops.{cons}
 use Rattle.format.specs.Refused.Plane.{Within}
 use Rattle.format.specs.declared.Axis.{Axis}
 use Rattle.format.specs.declared.Axis.the-variants.{T, Z, P}
