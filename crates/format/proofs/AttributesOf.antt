@@ -10,7 +10,7 @@ use borrow.Author.Tests.{ltb-true, lt-ltb, eqb-true, not-false}
 use Rattle.format.proofs.Answers.{none≢some, refuseIf-given, andThen-given, orRefuse-given, given-inj, not-refused, go-on, found}
 use Rattle.format.proofs.Rules.{cond-some}
 use Rattle.format.proofs.Means.{Means}
-use Rattle.format.proofs.Numbers.{level-at, unsigned-in, signed-in}
+use Rattle.format.proofs.Fields.{level-at, unsigned-in, signed-in}
 use Rattle.format.proofs.Summaries.{bits-good, good-bits, shape-good, good-shape}
 use Rattle.format.specs.Answer.{given, orRefuse}
 use Rattle.format.specs.Bytes.{ascii}

@@ -12,7 +12,7 @@ use borrow.Author.Tests.{ltb-false, le-ltb}
 use Rattle.format.proofs.Answers.{refuseIf-given, andThen-given, orRefuse-given, given-inj, not-refused, go-on, found}
 use Rattle.format.proofs.Trees.{passed-read, read-passed}
 use Rattle.format.proofs.Named.{mapped-read, read-range, read-mapped, mapped-unique, tree-given, given-tree, all-fit, tree-means}
-use Rattle.format.proofs.Numbers.{level-at}
+use Rattle.format.proofs.Fields.{level-at}
 use Rattle.format.proofs.AttributesOf.{attributes-read, read-attributes}
 use Rattle.format.proofs.Walks.{loops-read, read-loops}
 use Rattle.format.proofs.Steps.{step-read, read-step}

@@ -15,7 +15,7 @@ use Rattle.format.proofs.Tests.{cond-by}
 use Rattle.format.proofs.Answers.{none≢some}
 use Rattle.format.proofs.Rules.{Gives, States, no-such, none-of, bind-some, some-bind}
 use Rattle.format.proofs.Means.{Means}
-use Rattle.format.proofs.Numbers.{field-in, level-in, unsigned-in, signed-in}
+use Rattle.format.proofs.Fields.{field-in, level-in, unsigned-in, signed-in}
 use Rattle.format.proofs.Lookups.{as-level}
 use Rattle.format.proofs.Lists.{all-take}
 use Rattle.format.specs.Bytes.{ascii}

@@ -11,7 +11,7 @@ use borrow.Author.Tests.{ltb-true, lt-ltb, eqb-true}
 use Rattle.format.proofs.Answers.{none≢some}
 use Rattle.format.proofs.Rules.{States, no-such, none-of, cond-some}
 use Rattle.format.proofs.Means.{Means}
-use Rattle.format.proofs.Numbers.{double-in}
+use Rattle.format.proofs.Fields.{double-in}
 use Rattle.format.proofs.Loops.{parameters-in, count-in, kind-in, below-in}
 use Rattle.format.proofs.Depths.{Ranked}
 use Rattle.format.proofs.Below.{Fine, not-deepest, kids-fine, top-fine}
