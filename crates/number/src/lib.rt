@@ -133,11 +133,10 @@ pub fn signed(x: f64) -> Integer
     ensures { λ r. ⌜ integer r ≡ some (Ieee.toSigned 63 x) ⌝ }
 {
     let bits = double_bits(x);
-    let rest = bits % SIGN;
-    if rest > INFINITE {
+    if bits % SIGN > INFINITE {
         return Integer::Is(0);
     }
-    let size = whole_part(rest);
+    let size = whole_part(bits % SIGN);
     if bits < SIGN {
         Integer::Is(at_most(size, SIGN - 1))
     } else {
