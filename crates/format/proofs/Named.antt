@@ -1,14 +1,15 @@
 -- The grammar's map, its named chunks and their trees are those that are read. Assumes nothing.
 use Prim.Native.Nat.{ℕ, _-_, _≤_}
 use mathlib.Core.Path.{_≡_, refl, sym, ap, _∙_, subst}
-use mathlib.Core.Bool.{Bool, true, false, cond, not}
+use mathlib.Core.Bool.{false, not}
 use mathlib.Core.List.{List, []}
 use native.Mathlib.Omega.{arith}
-use lib.Dec.{eqb, ltb, leb}
-use lib.ListN.{length, take}
-use borrow.Author.Tests.{ltb-false, le-ltb, leb-true, le-leb, eqb-true, eq-eqb, not-false}
+use lib.Dec.{eqb, ltb}
+use lib.ListN.{length}
+use borrow.Author.Tests.{ltb-false, le-ltb, le-leb, eqb-true, eq-eqb, not-false}
 use Rattle.format.proofs.Tests.{same-true, true-same}
-use Rattle.format.proofs.Answers.{refused≢given, refuseIf-given, andThen-given, orRefuse-given, given-inj, not-refused, go-on, found, Numbered, andThen-numbered, orRefuse-numbered}
+use Rattle.format.proofs.Answers.{refuseIf-given, andThen-given, orRefuse-given, given-inj, not-refused, go-on, found, Numbered, andThen-numbered, orRefuse-numbered}
+use Rattle.format.proofs.Reading.{whole-read}
 use Rattle.format.proofs.Chunks.{chunk-read, read-chunk, chunk-numbered}
 use Rattle.format.proofs.Maps.{map-read, read-map, listed-read, read-listed}
 use Rattle.format.proofs.Trees.{tree-read, read-tree}
@@ -21,7 +22,7 @@ use Rattle.format.specs.Bytes.{le, part, same}
 use Rattle.format.specs.declared.Range.{Range}
 use Rattle.format.specs.Chunks.{chunkMark, chunkData, dataIn}
 use Rattle.format.specs.Map.{MapEntry, endMark, mapName, mapEntries, offsetOf, mapRange, namedChunk}
-use Rattle.format.specs.Trees.{Stop, at, fault, Read, treeIn, within, wholeTree as wholeTree, treeEntries, namedTree}
+use Rattle.format.specs.Trees.{at, fault, Read, treeIn, within, wholeTree as wholeTree, namedTree}
 use Rattle.format.specs.Grammar.Map.{Mapped, Named}
 use Rattle.format.specs.Grammar.Trees.{Tree}
 use Rattle.format.specs.declared.Entry.{Entry}
@@ -92,26 +93,12 @@ module _ (s m : List ℕ) (es : List MapEntry) (name : List ℕ) where
   pub named-unique : (r q : Range) → Named s m es name r → Named s m es name q → r ≡ q
   named-unique r q x y = given-inj (sym (read-named r x) ∙ read-named q y)
 
-  -- a tree that is read into a table
-  entries-read : (room : ℕ) (t : Read) (ts : List Entry) → treeEntries (within room t) ≡ given ts → (length (t .entries) ≤ room) × (p : ℕ) × (t ≡ record { entries = ts; stop = at p })
-  unfolding within wholeTree
-  entries-read room t ts e = go (leb (length (t .entries)) room) refl e
-    where
-      end : (es : List Entry) (x : Stop) → wholeTree x es ≡ given ts → (p : ℕ) × (_≡_ {A = Read} (record { entries = es; stop = x }) (record { entries = ts; stop = at p }))
-      end es (at p) e = (p, ap (λ (l : List Entry). record { entries = l; stop = at p }) (given-inj e))
-      end es (fault n) e = absurd (refused≢given e)
-
-      go : (b : Bool) → leb (length (t .entries)) room ≡ b → treeEntries (cond b t (record { entries = take room (t .entries); stop = fault why.table })) ≡ given ts
-          → (length (t .entries) ≤ room) × (p : ℕ) × (t ≡ record { entries = ts; stop = at p })
-      go true q e = let (p, z) = end (t .entries) (t .stop) e in (leb-true _ _ q, p, z)
-      go false q e = absurd (refused≢given e)
-
   pub tree-given : (room : ℕ) (ts : List Entry) → namedTree s m es room name ≡ given ts
       → (r : Range) × Named s m es name r × Tree s r ts × (length (treeIn s r .entries) ≤ room)
   unfolding namedTree
   tree-given room ts e =
       let (r, f₁, e₁) = andThen-given (namedChunk s m es name) _ e in
-      let (h, p, q) = entries-read room (treeIn s r) ts e₁ in
+      let (h, p, q) = whole-read room (treeIn s r) ts e₁ in
       let x : Tree s r (treeIn s r .entries) = tree-read s r p (ap (λ (z : Read). z .stop) q) in
       (r, named-read r f₁, subst (Tree s r) (ap (λ (z : Read). z .entries) q) x, h)
 

@@ -29,3 +29,5 @@ pub mod Grammar
 pub mod Refused
 -- "Both edges": the starred lines
 pub mod Edges
+-- the customer's first and third demand, as statements
+pub mod Demands

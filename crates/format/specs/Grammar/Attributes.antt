@@ -1,10 +1,10 @@
 -- "The grammar": the attributes, as rules.
-use Prim.Native.Nat.{ℕ, _*_, _^_, _≤_, _<_}
+use Prim.Native.Nat.{ℕ, _^_, _≤_, _<_}
 use mathlib.Core.List.{List}
 use lib.IntN.{pos}
 use Rattle.format.specs.Bytes.{ascii, most64}
 use Rattle.format.specs.Values.{level}
-use Rattle.format.specs.Attributes.{sampleBytes, rowBytes}
+use Rattle.format.specs.Attributes.{rowBytes}
 use Rattle.format.specs.Grammar.Values.{Field}
 use Rattle.format.specs.Grammar.Numbers.{Unsigned, Signed}
 use Rattle.format.specs.declared.Entry.{Entry}

@@ -1,10 +1,9 @@
 -- The plane call: "20, 21, 22, 5, 23, 4, 24, 25".
-use Prim.Native.Nat.{ℕ, _+_, _-_, _*_, _/_, _≤_, _<_}
+use Prim.Native.Nat.{ℕ, _+_, _-_, _*_, _≤_, _<_}
 use mathlib.Core.Path.{_≡_}
 use mathlib.Core.List.{List, [], _∷_}
 use lib.ListN.{length, getD}
 use Rattle.format.specs.Bytes.{most64}
-use Rattle.format.specs.Chunks.{dataIn}
 use Rattle.format.specs.Map.{MapEntry}
 use Rattle.format.specs.Attributes.{sampleBytes, planeBytes}
 use Rattle.format.specs.Frames.{countOf, seqIndex}

@@ -1,6 +1,6 @@
 -- Row 20: "the shape rules fail, bits are not 8, 16 or 32, a loop count is not 1 to 1,000,000, loops are over three, an axis repeats, or the map range leaves the
 -- file."
-use Prim.Native.Nat.{ℕ, _+_, _*_, _/_, _≤_}
+use Prim.Native.Nat.{ℕ, _+_, _≤_}
 use mathlib.Core.List.{List}
 use lib.ListN.{length}
 use Rattle.format.specs.Bytes.{most64}

@@ -1,6 +1,5 @@
 -- The tree call: "20, 5, 11, 4, tree". Of a tree's own refusals 18 comes before a later fault, and of the others a tree has at most one.
-use Prim.Native.Nat.{ℕ, _+_, _*_, _<_}
-use mathlib.Core.Path.{_≡_}
+use Prim.Native.Nat.{ℕ, _<_}
 use mathlib.Core.List.{List, [], _∷_}
 use Rattle.format.specs.Map.{MapEntry}
 use Rattle.format.specs.Summary.{mapOf}
