@@ -9,7 +9,6 @@ use lib.Dec.{ltb}
 use Rattle.format.specs.Bytes.{le}
 use Rattle.cursor.specs.Words.{to, Within, wordAt, GoodWord}
 use Rattle.cursor.specs.declared.Cursor.{Cursor}
-use Rattle.cursor.specs.declared.Word.{Word}
 use Rattle.cursor.specs.declared.Word.the-variants.{Got, Cut}
 
 module _ (n : ℕ) (s : List ℕ) (c : Cursor) where

@@ -1,18 +1,16 @@
 -- The bytes of a tree's entries, and what a table makes of a reading. Assumes nothing.
-use Prim.Native.Nat.{ℕ, zero, suc, _+_, _*_, _≤_, _<_}
-use mathlib.Core.Path.{_≡_, refl, ap, _∙_}
-use mathlib.Core.Bool.{cond}
+use Prim.Native.Nat.{ℕ, _+_, _*_, _≤_, _<_}
+use mathlib.Core.Path.{_≡_, refl}
 use mathlib.Core.List.{List, [], _∷_, _++_, append-assoc}
 use native.Mathlib.Omega.{arith}
 use native.Mathlib.Nat.{zero-add}
 use borrow.Author.Tests.{le-leb, lt-leb}
-use lib.Dec.{leb}
-use lib.ListN.{length, length-append, drop, take}
+use lib.ListN.{length, length-append}
 use lib.Seq.{sets, sets-eq}
 use Rattle.format.proofs.Bytes.{leBytes-length, sets-append}
 use Rattle.format.specs.Bytes.{leBytes, over}
 use Rattle.format.specs.Refusals as why
-use Rattle.format.specs.Trees.{Stop, fault, Read, within, entryBytes, tableBytes}
+use Rattle.format.specs.Trees.{fault, Read, within, entryBytes, tableBytes}
 use Rattle.format.specs.declared.Entry.{Entry}
 
 pub length-entry : (e : Entry) → length (entryBytes e) ≡ 48

@@ -1,24 +1,22 @@
 -- What the tests on a record's head, a value and a level's header say of the format's definitions. Assumes nothing.
-use Prim.Native.Nat.{ℕ, suc, _+_, _-_, _*_, _/_, _≤_, _<_}
-use mathlib.Core.Path.{_≡_, refl, sym, ap, _∙_}
-use mathlib.Core.Bool.{Bool, true, false, cond, not, _&&_, _||_}
-use mathlib.Core.List.{List, [], _∷_}
+use Prim.Native.Nat.{ℕ, _+_, _-_, _*_, _/_, _≤_, _<_}
+use mathlib.Core.Path.{_≡_, refl, _∙_}
+use mathlib.Core.Bool.{true, false, _||_}
+use mathlib.Core.List.{List}
 use native.Mathlib.Omega.{arith}
-use borrow.Author.Tests.{lt-ltb, le-ltb, le-leb, lt-leb, eq-eqb, ne-eqb}
+use borrow.Author.Tests.{lt-ltb, le-ltb, le-leb, lt-leb, ne-eqb}
 use lib.ListN.{length, getD}
-use lib.Dec.{eqb, leb, ltb}
+use lib.Dec.{eqb}
 use Rattle.format.proofs.Trees.{records-step}
 use Rattle.format.specs.Bytes.{le}
 use Rattle.format.specs.Text.{units}
-use Rattle.format.specs.Trees.{Stop, at, fault, Read, ends, entered, follow, then, pick, stopIf, fixedValue, textUnits, textValue, bytesValue, Children, childrenOr9, levelValue, levelEnd, fixedLen, value, known, ChildrenAt, entryOf, recordAt, records}
+use Rattle.format.specs.Trees.{at, fault, Read, ends, follow, fixedValue, textUnits, textValue, bytesValue, Children, levelValue, levelEnd, fixedLen, value, known, ChildrenAt, recordAt, records}
 use Rattle.format.specs.declared.Entry.{Entry}
 use Rattle.cursor.proofs.Reading.{was-cut, was-got}
 use Rattle.cursor.specs.Words.{Within, to, wordAt}
 use Rattle.cursor.specs.declared.Cursor.{Cursor}
 use Rattle.cursor.specs.declared.Word.the-variants.{Got, Cut}
-use Rattle.tree.specs.Steps.{Faults, Headed, valueOf, HeadRead, LeafRead, LevelRead, GoodInner, Skipped}
-use Rattle.tree.specs.declared.Name.{Name}
-use Rattle.tree.specs.declared.Head.{Head}
+use Rattle.tree.specs.Steps.{HeadRead, LeafRead, LevelRead, Skipped}
 use Rattle.tree.specs.declared.Head.the-variants.{Named, Bad, End}
 use Rattle.tree.specs.declared.Leaf.{Leaf}
 use Rattle.tree.specs.declared.Leaf.the-variants.{Value, Wrong}
@@ -27,48 +25,74 @@ use Rattle.tree.specs.declared.Step.the-variants.{Next, Fault}
 
 -- ---- a record's head
 
-module _ (d : List ℕ) (c : Cursor) where
-  pub head-end : c .end - c .at < 2 → HeadRead d c End
-  unfolding records
-  head-end h =
-      record { says = λ base children parent count used. rw (lt-ltb (c .end) (c .at + 2) (omega arith)); good = tt }
+pub head-end : (d : List ℕ) (c : Cursor) → c .end - c .at < 2 → HeadRead d c End
+unfolding records
+head-end d c h = record { says = λ base children parent count used. rw (lt-ltb (c .end) (c .at + 2) (omega arith)); good = tt }
 
-  module _ (two : 2 ≤ c .end - c .at) where
-    bad : (x : ℕ) → ((base : ℕ) (children : ChildrenAt) (parent used : ℕ) → recordAt d base children parent used (c .at) (c .end) ≡ ends (fault x)) → HeadRead d c (Bad x)
-    unfolding follow
-    bad x e =
-        record { says = λ base children parent count used. records-step d base children parent count used (c .at) (c .end) (omega arith) ∙ rw (e base children parent used); good = tt }
+-- what the first two bytes tell
+module _ (d : List ℕ) (c : Cursor) (w : Within c d) where
+  pub head-none : wordAt 1 d c ≡ Cut → HeadRead d c End
+  head-none h = let l = was-cut 1 d c h in head-end d c (omega arith)
 
-    module _ {k : ℕ} (kind : k ≡ getD d (c .at) 0) where
-      pub head-packed : k ≡ 76 → HeadRead d c (Bad 8)
+  module _ {k : ℕ} {a : Cursor} (kind : wordAt 1 d c ≡ Got k a) where
+    pub head-half : wordAt 1 d a ≡ Cut → HeadRead d c End
+    head-half h =
+        let l = was-cut 1 d a h in
+        let (f, q, p) = was-got 1 d c kind in
+        let l′ : c .end - (c .at + 1) < 1 = rw p at l in
+        head-end d c (omega arith)
+
+    pub record Begun (m : ℕ) (v : Cursor) : Type 0 where
+      pub type-is : k ≡ getD d (c .at) 0
+      pub units-are : m ≡ getD d (c .at + 1) 0
+      pub name-at : v .at ≡ c .at + 2
+      pub name-end : v .end ≡ c .end
+      pub two : c .at + 2 ≤ c .end
+
+    pub head-begun : {m : ℕ} {v : Cursor} → wordAt 1 d a ≡ Got m v → Begun m v
+    unfolding le
+    head-begun {m} {v} h =
+        let (f, q, p) = was-got 1 d c kind in
+        let (g, r, z) = was-got 1 d a h in
+        let r′ : m ≡ le 1 d (c .at + 1) = rw p at r in
+        let z′ : v ≡ to (c .at + 1 + 1) (c .end) = rw p at z in
+        let g′ : 1 ≤ c .end - (c .at + 1) = rw p at g in
+        record { type-is = omega arith; units-are = omega arith; name-at = rw z′ (omega arith); name-end = rw z′; two = omega (arith, w .order) }
+
+-- the head at i, of type k and with a name of m units, in a level that ends at e
+module _ (d : List ℕ) {i e k m : ℕ} (two : i + 2 ≤ e) (kind : k ≡ getD d i 0) (count : m ≡ getD d (i + 1) 0) where
+  bad : (x : ℕ) → ((base : ℕ) (children : ChildrenAt) (parent used : ℕ) → recordAt d base children parent used i e ≡ ends (fault x)) → HeadRead d (to i e) (Bad x)
+  unfolding follow
+  bad x q = record { says = λ base children parent n used. records-step d base children parent n used i e two ∙ rw (q base children parent used); good = tt }
+
+  pub head-packed : k ≡ 76 → HeadRead d (to i e) (Bad 8)
+  unfolding recordAt
+  head-packed h = bad 8 λ base children parent used. rw (← kind, h)
+
+  module _ (plain : k ≡ 76 → ⊥) where
+    pub head-early : (eqb k 0 || eqb k 10) ≡ true → HeadRead d (to i e) (Bad 7)
+    unfolding recordAt
+    head-early h = bad 7 λ base children parent used. rw (← kind, ne-eqb k 76 plain, h)
+
+    module _ (late : (eqb k 0 || eqb k 10) ≡ false) where
+      pub head-cut : (e - (i + 2)) / 2 < m → HeadRead d (to i e) (Bad 6)
       unfolding recordAt
-      head-packed h = bad 8 λ base children parent used. rw (← kind, h)
+      head-cut h = bad 6 λ base children parent used. rw (← kind, ← count, ne-eqb k 76 plain, late, lt-ltb e (i + 2 + 2 * m) (omega arith))
 
-      module _ (plain : k ≡ 76 → ⊥) where
-        pub head-early : (eqb k 0 || eqb k 10) ≡ true → HeadRead d c (Bad 7)
+      module _ (fits : m ≤ (e - (i + 2)) / 2) where
+        pub head-unknown : known k ≡ false → HeadRead d (to i e) (Bad 7)
         unfolding recordAt
-        head-early h = bad 7 λ base children parent used. rw (← kind, ne-eqb k 76 plain, h)
+        head-unknown h = bad 7 λ base children parent used. rw (← kind, ← count, ne-eqb k 76 plain, late, le-ltb e (i + 2 + 2 * m) (omega arith), h)
 
-        module _ {m : ℕ} (count : m ≡ getD d (c .at + 1) 0) (late : (eqb k 0 || eqb k 10) ≡ false) where
-          pub head-cut : c .end - (c .at + 2) < 2 * m → HeadRead d c (Bad 6)
-          unfolding recordAt
-          head-cut h = bad 6 λ base children parent used. rw (← kind, ← count, ne-eqb k 76 plain, late, lt-ltb (c .end) (c .at + 2 + 2 * m) (omega arith))
-
-          module _ (fits : 2 * m ≤ c .end - (c .at + 2)) where
-            pub head-unknown : known k ≡ false → HeadRead d c (Bad 7)
-            unfolding recordAt
-            head-unknown h = bad 7 λ base children parent used. rw (← kind, ← count, ne-eqb k 76 plain, late, le-ltb (c .end) (c .at + 2 + 2 * m) (omega arith), h)
-
-            pub head-named : {u : ℕ} → Within c d → known k ≡ true → u ≡ m - 1
-                → HeadRead d c (Named (record { kind = k; start = c .at; units = u }) (to (c .at + 2 + 2 * m) (c .end)))
-            unfolding recordAt
-            head-named w h q =
-                record {
-                  says =
-                      λ base children parent n used. records-step d base children parent n used (c .at) (c .end) (omega arith)
-                      ∙ rw (← kind, ← count, ne-eqb k 76 plain, late, le-ltb (c .end) (c .at + 2 + 2 * m) (omega arith), h);
-                  good = (record { kind = kind; units = rw (q, count); before = omega arith; within = record { order = omega arith; inside = w .inside } }, refl);
-                }
+        pub head-named : {u : ℕ} → e ≤ length d → known k ≡ true → u ≡ m - 1 → HeadRead d (to i e) (Named (record { kind = k; start = i; units = u }) (to (i + 2 + 2 * m) e))
+        unfolding recordAt
+        head-named w h q =
+            record {
+              says =
+                  λ base children parent n used. records-step d base children parent n used i e two
+                  ∙ rw (← kind, ← count, ne-eqb k 76 plain, late, le-ltb e (i + 2 + 2 * m) (omega arith), h);
+              good = (record { kind = kind; units = rw (q, count); before = omega arith; within = record { order = omega arith; inside = w } }, refl);
+            }
 
 -- ---- a value that is no level
 
@@ -217,17 +241,16 @@ module _ (d : List ℕ) (c : Cursor) (w : Within c d) {start : ℕ} (before : st
                       after = record { order = omega arith; inside = omega (arith, w .inside) };
                       seam = refl;
                       last = e;
-                      few = few;
                     };
               }
 
 -- ---- a level's end
 
 module _ (c : Cursor) (k u : ℕ) where
-  pub skip-cut : c .end - c .at < 8 * k → Skipped c k u (Fault 6)
+  pub skip-cut : (c .end - c .at) / 8 < k → Skipped c k u (Fault 6)
   unfolding levelEnd
   skip-cut h = record { says = rw (lt-leb (c .at + 8 * k) (c .end) (omega arith)); good = tt }
 
-  pub skip-done : c .at ≤ c .end → 8 * k ≤ c .end - c .at → Skipped c k u (Next (to (c .at + 8 * k) (c .end)) u)
+  pub skip-done : c .at ≤ c .end → k ≤ (c .end - c .at) / 8 → Skipped c k u (Next (to (c .at + 8 * k) (c .end)) u)
   unfolding levelEnd
   skip-done o h = record { says = rw (le-leb (c .at + 8 * k) (c .end) (omega arith)); good = (omega arith, refl, refl) }

@@ -1,11 +1,10 @@
 -- The entries that are stored in a table are those that stand in it. Assumes nothing.
-use Prim.Native.Nat.{ℕ, zero, suc, _+_, _*_, _^_, _≤_, _<_}
+use Prim.Native.Nat.{ℕ, zero, suc, _+_, _*_, _^_, _<_}
 use mathlib.Core.Path.{_≡_, refl, sym, ap, _∙_}
 use mathlib.Core.List.{List, [], _∷_, _++_, append-assoc}
 use native.Mathlib.Omega.{arith}
-use native.Mathlib.Nat.{zero-add, add-zero}
-use lib.ListN.{length, getD, drop, List·getD-append}
-use lib.Seq.{getD-append-seam}
+use native.Mathlib.Nat.{add-zero}
+use lib.ListN.{length, getD}
 use Rattle.format.proofs.Bytes.{le-after, le-before, le-leBytes, leBytes-length}
 use Rattle.format.proofs.Tables.{length-entry}
 use Rattle.format.specs.Bytes.{le, leBytes, over}

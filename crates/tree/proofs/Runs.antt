@@ -3,26 +3,26 @@
 use Prim.Native.Nat.{ℕ, zero, suc, _+_, _-_, _*_, _≤_, _<_}
 use mathlib.Core.Path.{_≡_, refl, sym, ap, _∙_}
 use mathlib.Core.Bool.{Bool, true, false, cond}
-use mathlib.Core.Option.{some, none}
+use mathlib.Core.Option.{some}
 use mathlib.Core.List.{List, [], _∷_, _++_, append-assoc, append-nil}
 use native.Mathlib.Omega.{arith}
 use native.Mathlib.Nat.{add-assoc, add-zero, mul-add}
 use native.Mathlib.Numerals.{add-one, sub-one}
-use borrow.Author.Tests.{eq-eqb, leb-true, leb-false}
+use borrow.Author.Tests.{leb-true, leb-false}
 use lib.Dec.{leb}
-use lib.ListN.{length, getD, take, length-append}
+use lib.ListN.{length, take, length-append}
 use lib.Seq.{sets, length-sets}
 use Rattle.format.proofs.Bytes.{sets-append}
 use Rattle.format.proofs.Tables.{table-append, length-table, within-whole, within-full}
 use Rattle.format.proofs.Trees.{then-more, value-some}
 use Rattle.format.specs.Refusals as why
-use Rattle.format.specs.Trees.{Stop, at, fault, Read, ends, entered, follow, then, pick, Children, childrenOr9, levelValue, levelEnd, value, ChildrenAt, entryOf, records, childrenAt, roomIn, within, entryBytes, tableBytes}
+use Rattle.format.specs.Trees.{Stop, at, fault, Read, ends, follow, then, childrenOr9, levelEnd, value, entryOf, records, childrenAt, roomIn, within, entryBytes, tableBytes}
 use Rattle.format.specs.declared.Entry.{Entry}
 use Rattle.cursor.specs.Words.{Within}
 use Rattle.cursor.specs.declared.Cursor.{Cursor}
 use Rattle.tree.specs.Table.{Fit, AllFit, putAll}
 use Rattle.tree.proofs.Answers.{value-level}
-use Rattle.tree.specs.Steps.{Faults, Headed, valueOf, fromHead, HeadRead, LeafRead, LevelRead, GoodInner, Skipped, entryFor, recordsAt, valueAt, Stops, Went, Ran}
+use Rattle.tree.specs.Steps.{Faults, Headed, fromHead, HeadRead, LeafRead, LevelRead, Skipped, entryFor, recordsAt, valueAt, Stops, Went, Ran}
 use Rattle.tree.specs.declared.Name.{Name}
 use Rattle.tree.specs.declared.Spot.{Spot}
 use Rattle.tree.specs.declared.Head.{Head}

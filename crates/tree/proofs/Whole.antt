@@ -1,19 +1,18 @@
 -- A tree that is read into a cleared table, and what the answer tells a caller. Assumes nothing.
-use Prim.Native.Nat.{ℕ, _+_, _-_, _*_, _≤_}
-use mathlib.Core.Path.{_≡_, refl, sym, ap, _∙_, subst}
-use mathlib.Core.List.{List, []}
+use Prim.Native.Nat.{ℕ, _-_, _*_, _≤_}
+use mathlib.Core.Path.{_≡_, refl, ap, _∙_, subst}
+use mathlib.Core.List.{List}
 use native.Mathlib.Omega.{arith}
 use native.Mathlib.Nat.{sub-zero}
 use lib.ListN.{length, length-replicate}
-use lib.Seq.{sets}
 use Rattle.format.proofs.Tables.{length-table, sets-over, within-whole}
 use Rattle.format.specs.Answer.{Answer, given, refused}
 use Rattle.format.specs.Bytes.{over, zeros}
-use Rattle.format.specs.Trees.{Stop, at, fault, Read, read, roomIn, within, wholeTree, tableBytes}
+use Rattle.format.specs.Trees.{at, fault, Read, read, roomIn, within, wholeTree, tableBytes}
 use Rattle.format.specs.declared.Entry.{Entry}
 use Rattle.cursor.specs.Words.{to}
 use Rattle.cursor.specs.declared.Cursor.{Cursor}
-use Rattle.tree.specs.Table.{AllFit, putAll, Holds}
+use Rattle.tree.specs.Table.{putAll, Holds}
 use Rattle.tree.specs.Steps.{recordsAt, Stops, Went, treeInto, parsedOf}
 use Rattle.tree.specs.declared.Parsed.{Parsed}
 use Rattle.tree.specs.declared.Parsed.the-variants.{Entries, Refused}

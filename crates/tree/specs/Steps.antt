@@ -1,12 +1,12 @@
 -- What each answer of the crate's functions says of the format's readings, case by case.
-use Prim.Native.Nat.{ℕ, suc, _+_, _-_, _*_, _^_, _≤_, _<_}
+use Prim.Native.Nat.{ℕ, suc, _+_, _-_, _≤_}
 use mathlib.Core.Path.{_≡_}
-use mathlib.Core.List.{List, [], _∷_}
+use mathlib.Core.List.{List}
 use lib.ListN.{length, getD}
 use Rattle.format.specs.Answer.{Answer, given, refused}
 use Rattle.format.specs.Trees.{Stop, at, fault, Read, ends, entered, then, Children, childrenOr9, levelValue, levelEnd, value, ChildrenAt, entryOf, records, childrenAt, read, roomIn, within, treeEntries}
 use Rattle.format.specs.declared.Entry.{Entry}
-use Rattle.cursor.specs.Words.{Within, to}
+use Rattle.cursor.specs.Words.{Within}
 use Rattle.cursor.specs.declared.Cursor.{Cursor}
 use Rattle.tree.specs.Table.{AllFit, putAll}
 use Rattle.tree.specs.declared.Name.{Name}
@@ -80,15 +80,14 @@ levelSays children entry e o (Inner k c a) = o ≡ childrenOr9 children k (c .at
 levelSays children entry e o (Unfit x) = Faults x o
 
 -- the children's part is followed by the rest of the level that this one stands in
-pub record GoodInner (d : List ℕ) (e k : ℕ) (c a : Cursor) : Type 0 where
+pub record GoodInner (d : List ℕ) (e : ℕ) (c a : Cursor) : Type 0 where
   pub kids : Within c d
   pub after : Within a d
   pub seam : a .at ≡ c .end
   pub last : a .end ≡ e
-  pub few : k ≤ 10_000_000
 
 abbrev pub GoodLevel : List ℕ → ℕ → Level → Type 0
-GoodLevel d e (Inner k c a) = GoodInner d e k c a
+GoodLevel d e (Inner k c a) = GoodInner d e c a
 GoodLevel d e (Unfit x) = Unit
 
 pub record LevelRead (d : List ℕ) (start : ℕ) (c : Cursor) (r : Level) : Type 0 where

@@ -2,13 +2,13 @@
 ghost use mathlib.Core.Path.{_≡_};
 ghost use Prim.Native.Nat.{ℕ, _+_, _-_, _*_, _^_, _≤_, _<_};
 ghost use mathlib.Core.List.{List};
-ghost use lib.ListN.{length};
+ghost use lib.ListN.{length, getD};
 ghost use lib.Seq.{sets};
 ghost use Rattle.format.specs.Answer.{given};
 ghost use Rattle.format.specs.Text.{units};
 ghost use Rattle.format.specs.Trees.{known, fixedLen, textUnits, textValue, bytesValue, value, entryBytes, roomIn, Children};
 ghost use Rattle.format.specs.declared.Entry.{Entry};
-ghost use Rattle.cursor.specs.Words.{Within};
+ghost use Rattle.cursor.specs.Words.{Within, to};
 ghost use Rattle.tree.specs.Table.{Fit, Holds};
 ghost use Rattle.tree.specs.Steps.{HeadRead, LeafRead, LevelRead, Skipped, Headed, entryFor, recordsAt, valueAt, Ran, treeInto, parsedOf};
 
@@ -19,7 +19,6 @@ use cursor::Word;
 use cursor::clear;
 use cursor::le2;
 use cursor::put8;
-use cursor::wide;
 use format::Entry;
 use format::refusal;
 
@@ -174,44 +173,52 @@ fn read_leaf(d: &[u8], kind: u64, c: Cursor) -> Leaf
     Leaf::Value(at, size, Cursor { at: at + size, end })
 }
 
-// The head of the record at the cursor.
-fn read_head(d: &[u8], c: Cursor) -> Head
-    requires { ⌜ Within c (now d) ⌝ }
-    ensures { λ r. ⌜ HeadRead (now (d .entry)) c r ⌝ }
+// A record's head is judged: its type, its name's units, the place of its first byte, and the cursor at its name.
+fn judge_head(kind: u64, units: u64, start: usize, name: Cursor) -> Head
+    requires { ⌜ (name .at ≡ start + 2) × (name .at ≤ name .end) ⌝ }
+    ensures { λ r. ⌜ ((d : List ℕ) → name .end ≤ length d → kind ≡ getD d start 0 → units ≡ getD d (start + 1) 0 → HeadRead d (to start (name .end)) r) ⌝ }
 {
-    let at = c.at;
-    let end = c.end;
-    if end - at < 2 {
-        return Head::End;
-    }
-    let kind = wide(d[at]);
     if kind == clx_type::COMPRESS {
         return Head::Bad(refusal::PACKED);
     }
     if (kind == 0) | (kind == 10) {
         return Head::Bad(refusal::KIND);
     }
-    let units = wide(d[at + 1]);
-    let name = at + 2;
-    let size = 2 * units as usize;
-    if end - name < size {
+    let at = name.at;
+    let end = name.end;
+    let n = units as usize;
+    if (end - at) / 2 < n {
         return Head::Bad(refusal::CUT);
     }
     if is_known(kind) {
-        let n = Name {
+        let head = Name {
             kind,
-            start: at,
+            start,
             units: kept(units),
         };
         Head::Named(
-            n,
+            head,
             Cursor {
-                at: name + size,
+                at: at + 2 * n,
                 end,
             },
         )
     } else {
         Head::Bad(refusal::KIND)
+    }
+}
+
+// The head of the record at the cursor.
+fn read_head(d: &[u8], c: Cursor) -> Head
+    requires { ⌜ Within c (now d) ⌝ }
+    ensures { λ r. ⌜ HeadRead (now (d .entry)) c r ⌝ }
+{
+    match c.read_u8(d) {
+        Word::Cut => Head::End,
+        Word::Got(kind, k) => match k.read_u8(d) {
+            Word::Cut => Head::End,
+            Word::Got(units, name) => judge_head(kind, units, c.at, name),
+        },
     }
 }
 
@@ -253,16 +260,21 @@ fn read_level(d: &[u8], start: usize, c: Cursor) -> Level
 
 // Past a level's offsets, eight bytes for each of its items.
 fn skip_offsets(c: Cursor, count: usize, used: usize) -> Step
-    requires { ⌜ (c .at ≤ c .end) × (count ≤ 10000000) ⌝ }
+    requires { ⌜ c .at ≤ c .end ⌝ }
     ensures { λ r. ⌜ Skipped c count used r ⌝ }
 {
     let at = c.at;
     let end = c.end;
-    let size = 8 * count;
-    if end - at < size {
+    if (end - at) / 8 < count {
         return Step::Fault(refusal::CUT);
     }
-    Step::Next(Cursor { at: at + size, end }, used)
+    Step::Next(
+        Cursor {
+            at: at + 8 * count,
+            end,
+        },
+        used,
+    )
 }
 
 // The entry of the record n, with `size` bytes of value at `at`. Positions count from the file's start.

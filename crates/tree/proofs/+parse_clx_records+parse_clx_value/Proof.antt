@@ -1,13 +1,13 @@
 -- `tree::parse_clx_records` and `tree::parse_clx_value` read records and values as the format does, and write their entries. The levels that are
 -- left fall from call to call, and the records that are left from turn to turn.
-use Prim.Native.Nat.{ℕ, _<_, _≤_, _+_, _*_, _-_}
-use mathlib.Core.Path.{_≡_, sym, ap, _∙_}
+use Prim.Native.Nat.{ℕ, _<_, _+_, _*_, _-_}
+use mathlib.Core.Path.{_≡_, _∙_}
 use native.Mathlib.Omega.{arith}
 use borrow.Author.Needs.{needs}
 use denote.Ref.{now}
 use lib.Seq.{sets}
 use Rattle.format.specs.Trees.{entryBytes, value, childrenAt}
-use Rattle.tree.specs.Steps.{HeadRead, GoodHead, LeafRead, LevelRead, entryFor, Went}
+use Rattle.tree.specs.Steps.{HeadRead, LeafRead, LevelRead, entryFor}
 use Rattle.tree.specs.Table.{Fit}
 use Rattle.tree.specs.declared.Head.the-variants.{Named}
 use Rattle.tree.specs.declared.Leaf.the-variants.{Value}
@@ -256,7 +256,7 @@ parse-clx-value-enum-known-u t c = search needs
 parse-clx-value-skip-offsets-requires : (t : ℕ) → parse-clx-value-lts.Need-skip-offsets-requires (rv t) (parse-clx-value-at t) parse-clx-value.Post
 parse-clx-value-skip-offsets-requires t c κs =
     let g = level-at t (c .before .before .before .before .before .before .before .before .before .before .before .before .before .before .before) .good in
-    (g .after .order, g .few)
+    g .after .order
 
 parse-clx-value-read-leaf-requires : (t : ℕ) → parse-clx-value-lts.Need-read-leaf-requires (rv t) (parse-clx-value-at t) parse-clx-value.Post
 parse-clx-value-read-leaf-requires t c κs = search needs

@@ -1,5 +1,4 @@
 -- `tree::fixed_len` gives the bytes that the format says.
-use mathlib.Core.Path.{refl}
 use native.Mathlib.Omega.{arith}
 use borrow.Author.Tests.{ne-eqb}
 use Rattle.format.specs.Trees.{fixedLen}

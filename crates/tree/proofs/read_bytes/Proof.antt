@@ -1,9 +1,6 @@
 -- `tree::read_bytes` reads bytes as the format does.
-use mathlib.Core.Path.{_≡_, sym, _∙_}
+use mathlib.Core.Path.{sym, _∙_}
 use native.Mathlib.Omega.{arith}
-use denote.Ref.{now}
-use Rattle.cursor.specs.Words.{wordAt, GoodWord}
-use Rattle.cursor.specs.declared.Word.the-variants.{Got}
 use Rattle.tree.proofs.Answers.{bytes-unsized, bytes-cut, bytes-read}
 use borrow.Author.Needs.{needs}
 use Rattle.tree.proofs.read_bytes.Statement.{statement}

@@ -1,104 +1,68 @@
--- `tree::read_head` judges a record's head in the format's order.
-use mathlib.Core.Path.{sym, _∙_}
-use Rattle.tree.proofs.Answers.{head-end, head-packed, head-early, head-cut, head-unknown, head-named}
+-- `tree::read_head` reads a record's head as the format does.
+use mathlib.Core.Path.{_≡_, sym, _∙_}
+use native.Mathlib.Omega.{arith}
+use denote.Ref.{now}
+use Rattle.cursor.specs.Words.{wordAt}
+use Rattle.cursor.specs.declared.Word.the-variants.{Got}
+use Rattle.tree.proofs.Answers.{head-none, head-half, Begun, head-begun}
 use borrow.Author.Needs.{needs}
 use Rattle.tree.proofs.read_head.Statement.{statement}
 use Rattle.tree.proofs.read_head.Tie as tie
 
-sub-if1 : tie.Need-sub-if1
-sub-if1 c = search needs
+-- the type is read, and the name's units
+first : (c : tie.After-kind) → wordAt 1 (now (c .before .before .before .before .args .d)) (c .before .before .before .before .args .c) ≡ Got (c .kind .given .0 .0) (c .kind .given .0 .1 .0)
+first c = sym (c .before .before .read-u8 .ensures .0) ∙ c .kind .given .1
+
+begun : (c : tie.After-units) → Begun (now (c .before .before .before .before .before .before .before .before .args .d)) (c .before .before .before .before .before .before .before .before .args .c) (c .before .before .before .before .before .before .before .before .pre) (first (c .before .before .before .before)) (c .units .given .0 .0) (c .units .given .0 .1 .0)
+begun c = head-begun _ _ (c .before .before .before .before .before .before .before .before .pre) (first (c .before .before .before .before)) (sym (c .before .before .read-u82 .ensures .0) ∙ c .units .given .1)
+
+read-u8-requires : tie.Need-read-u8-requires
+read-u8-requires c κs = search needs
+
+enum-told : tie.Need-enum-told
+enum-told c = search needs
+
+enum-known-kind : tie.Need-enum-known-kind
+enum-known-kind c = search needs
+
+read-u8-requires-2 : tie.Need-read-u8-requires-2
+read-u8-requires-2 c κs = (rw (c .before .kind .given .1) at (c .before .before .before .read-u8 .ensures .1)) .0
+
+enum-told-2 : tie.Need-enum-told-2
+enum-told-2 c = search needs
+
+enum-known-units : tie.Need-enum-known-units
+enum-known-units c = search needs
+
+judge-head-requires : tie.Need-judge-head-requires
+judge-head-requires c κs = let g = begun (c .before) in (g .name-at, omega (arith, g .two, g .name-end))
 
 returns : tie.Need-returns
-returns c = head-end _ _ (c .if1 .taken)
-
-shared-slice-read-wide : tie.Need-shared-slice-read-wide
-shared-slice-read-wide c = search needs
-
-wide-requires : tie.Need-wide-requires
-wide-requires c κs = search needs
+returns c = head-none _ _ (c .before .before .before .before .pre) (sym (c .before .before .read-u8 .ensures .0) ∙ c .enum-told .given .1)
 
 returns-2 : tie.Need-returns-2
 returns-2 c =
-    let w = c .before in
-    head-packed _ _ (w .before .before .if1 .left) (w .wide .ensures .0) (c .if2 .taken)
+    let k = c .before .before .before .before in
+    head-half _ _ (k .before .before .before .before .pre) (first k) (sym (c .before .before .read-u82 .ensures .0) ∙ c .enum-told2 .given .1)
 
 returns-3 : tie.Need-returns-3
 returns-3 c =
-    let w = c .before .before in
-    head-early _ _ (w .before .before .if1 .left) (w .wide .ensures .0) (c .before .if2 .left) (c .if3 .taken)
-
-add-wide : tie.Need-add-wide
-add-wide c = search needs
-
-shared-slice-read-wide-2 : tie.Need-shared-slice-read-wide-2
-shared-slice-read-wide-2 c = search needs
-
-wide-requires-2 : tie.Need-wide-requires-2
-wide-requires-2 c κs = search needs
-
-add-name : tie.Need-add-name
-add-name c = search needs
-
-mul-size : tie.Need-mul-size
-mul-size c = search needs
-
-sub-if4 : tie.Need-sub-if4
-sub-if4 c = search needs
-
-returns-4 : tie.Need-returns-4
-returns-4 c =
-    let u = c .before in
-    let i3 = u .before .before in
-    let w = i3 .before .before in
-    head-cut _ _ (w .before .before .if1 .left) (w .wide .ensures .0) (i3 .before .if2 .left) (u .wide2 .ensures .0) (i3 .if3 .left) (c .if4 .taken)
-
-is-known-requires : tie.Need-is-known-requires
-is-known-requires c κs = search needs
-
-kept-requires : tie.Need-kept-requires
-kept-requires c κs = search needs
-
-add-t20 : tie.Need-add-t20
-add-t20 c = search needs
-
-returns-5 : tie.Need-returns-5
-returns-5 c =
-    let i5 = c .before in
-    let i4 = i5 .before .before in
-    let u = i4 .before in
-    let i3 = u .before .before in
-    let w = i3 .before .before in
-    head-named _ _ (w .before .before .if1 .left) (w .wide .ensures .0) (i3 .before .if2 .left) (u .wide2 .ensures .0) (i3 .if3 .left) (i4 .if4 .left)
-    (w .before .before .before .before .pre) (sym (i5 .before .is-known .ensures) ∙ i5 .if5 .taken) (c .kept .ensures)
-
-returns-6 : tie.Need-returns-6
-returns-6 c =
-    let i4 = c .before .before in
-    let u = i4 .before in
-    let i3 = u .before .before in
-    let w = i3 .before .before in
-    head-unknown _ _ (w .before .before .if1 .left) (w .wide .ensures .0) (i3 .before .if2 .left) (u .wide2 .ensures .0) (i3 .if3 .left) (i4 .if4 .left)
-    (sym (c .before .is-known .ensures) ∙ c .if5 .left)
+    let u = c .before .before in
+    let g = begun u in
+    let s = u .before .before .before .before .before .before .before .before in
+    rw (g .name-end) at (c .judge-head .ensures (now (s .args .d)) (omega (arith, g .name-end, s .pre)) (g .type-is) (g .units-are))
 
 pub read-head-spec : {M : Type 1} → statement M
 read-head-spec =
     tie.close
     (tie.spec
-    sub-if1
+    read-u8-requires
+    enum-told
+    enum-known-kind
+    read-u8-requires-2
+    enum-told-2
+    enum-known-units
+    judge-head-requires
     returns
-    shared-slice-read-wide
-    wide-requires
     returns-2
-    returns-3
-    add-wide
-    shared-slice-read-wide-2
-    wide-requires-2
-    add-name
-    mul-size
-    sub-if4
-    returns-4
-    is-known-requires
-    kept-requires
-    add-t20
-    returns-5
-    returns-6)
+    returns-3)

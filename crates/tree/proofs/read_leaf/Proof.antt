@@ -1,5 +1,4 @@
 -- `tree::read_leaf` reads a value that is no level as the format does.
-use Rattle.format.specs.Trees.{value, fixedLen, fixedValue, textValue, bytesValue}
 use Rattle.tree.proofs.Answers.{leaf-same, value-bytes, value-text, value-fixed, fixed-cut, fixed-read}
 use borrow.Author.Needs.{needs}
 use Rattle.tree.proofs.read_leaf.Statement.{statement}
