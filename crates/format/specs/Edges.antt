@@ -1,28 +1,24 @@
--- The starred lines of document 01, "Both edges", as rows under one theorem. Assumes nothing.
-use Prim.Native.Nat.{ℕ, zero, suc, _+_, _-_, _*_, _/_, _%_}
-use mathlib.Core.Path.{_≡_, refl}
-use mathlib.Core.Bool.{true, false}
+-- "Both edges": the starred lines, as rows of one statement.
+use Prim.Native.Nat.{ℕ, zero, suc, _+_}
+use mathlib.Core.Path.{_≡_}
+use mathlib.Core.Bool.{true}
 use mathlib.Core.Option.{Option, none, some}
 use Prim.Native.String.{String}
 use mathlib.Core.List.{List, [], _∷_, _++_, map}
 use lib.ListN.{length, take}
-use lib.Ieee.{Float, binary64, ofBits, ofInt, toSigned, div, sub}
-use lib.IntN.{ℤ, pos, negsuc}
-use Rattle.format.specs.Bytes.{le, ascii, part, same}
-use Rattle.format.specs.Text.{units, lossy}
-use Rattle.format.specs.Answer.{Answer, given, refused, refuseIf, andThen, orRefuse}
+use lib.Ieee.{Float, binary64, ofBits}
+use Rattle.format.specs.Bytes.{ascii, leBytes}
+use Rattle.format.specs.Answer.{Answer, given, refused}
 use Rattle.format.specs.Trees.{read, entered, at, fault}
-use Rattle.format.specs.Values.{Value, list, flag, nameOf, putNamed, putUnnamed, valueAt, slotsOf, elements, field, mapOption, slotValue, asLevel, bind}
-use Rattle.format.specs.Numbers.{unsigned, signed, below32, float, magnitude}
+use Rattle.format.specs.Values.{list, flag, valueAt}
 use Rattle.format.specs.declared.Attributes.{Attributes}
-use Rattle.format.specs.Attributes.{attributes, badShape, badBits, uncompressed}
-use Rattle.format.specs.Loops.{loopParams, orZero, childLevels}
+use Rattle.format.specs.Attributes.{attributes}
 use Rattle.format.specs.Calibration.{zStep}
 use Rattle.format.specs.Frames.{seqIndex, samplePlace}
 use Rattle.format.specs.Channels.{channelOf}
 use Rattle.format.specs.declared.Channel.{Channel}
 use Rattle.format.specs.declared.Entry.{Entry}
-use Rattle.format.specs.declared.Axis.the-variants.{T, Z, P}
+use Rattle.format.specs.declared.Axis.the-variants.{T, P}
 use Rattle.format.specs.declared.Loop.{Loop}
 
 -- ---- what the rows are about
@@ -37,11 +33,7 @@ scenesFour = record { axis = P; count = 4 }
 abbrev pub shaped : ℕ → Attributes
 shaped row = record { width = 2; stride = row; height = 2; components = 3; bits = 16 }
 
--- `n` as `k` bytes, the lowest first
-abbrev bytesOf : ℕ → ℕ → List ℕ
-bytesOf zero n = []
-bytesOf (suc k) n = n % 256 ∷ bytesOf k (n / 256)
-
+-- ASCII characters as units, with a zero unit behind them
 abbrev wide : List ℕ → List ℕ
 wide [] = 0 ∷ 0 ∷ []
 wide (c ∷ cs) = c ∷ 0 ∷ wide cs
@@ -53,8 +45,8 @@ rec k name v = k ∷ suc (length name) ∷ wide name ++ v
 -- a level of n records
 abbrev levelOf : ℕ → List ℕ → List ℕ → List ℕ
 levelOf n name kids =
-    let head = 11 ∷ suc (length name) ∷ wide name ++ bytesOf 4 n in
-    head ++ bytesOf 8 (length head + 8 + length kids) ++ kids ++ eights n
+    let head = 11 ∷ suc (length name) ∷ wide name ++ leBytes 4 n in
+    head ++ leBytes 8 (length head + 8 + length kids) ++ kids ++ eights n
   where
     eights : ℕ → List ℕ
     eights zero = []
@@ -62,11 +54,11 @@ levelOf n name kids =
 
 abbrev u32 : String → ℕ → List ℕ
 unfolding ascii
-u32 name n = rec 3 (ascii name) (bytesOf 4 n)
+u32 name n = rec 3 (ascii name) (leBytes 4 n)
 
 abbrev f64 : String → ℕ → List ℕ
 unfolding ascii
-f64 name bits = rec 6 (ascii name) (bytesOf 8 bits)
+f64 name bits = rec 6 (ascii name) (leBytes 8 bits)
 
 -- attributes of `shaped row`, with these bits of the double eCompression
 unfoldable pub attributesData : ℕ → ℕ → List ℕ
@@ -109,40 +101,25 @@ oneTrue n = 0x0B ∷ 0x00 ∷ 0x01 ∷ 0x00 ∷ 0x00 ∷ 0x00 ∷ n ∷ 0 ∷ 0 
 -- ---- the rows
 
 pub record Starred : Type 0 where
+  -- "seq: loops T 3, P 4; scene 2, t 1: n = 6. Loops P 4, T 3: 7."
   pub seq-times-first : seqIndex (timesThree ∷ scenesFour ∷ []) 2 1 0 ≡ 6
   pub seq-scenes-first : seqIndex (scenesFour ∷ timesThree ∷ []) 2 1 0 ≡ 7
+  -- "place: width 2, components 3, 16 bits, row bytes 14: (1,1), c 2 begins at 32. Row bytes 12 accepted, 11 gives 14."
   pub place : samplePlace (shaped 14) 0 2 1 1 ≡ 32
   pub row-12 : attributesOf 12 0x4000000000000000 ≡ given (shaped 12)
   pub row-11 : attributesOf 11 0x4000000000000000 ≡ refused 14
+  -- "record at file byte 100: 03 02 61 00 00 00 05 00 00 00: entry 3, 102, 1, 106, 4, 0. Without the last byte: 6."
   pub record-u32 : read u32Record 100 ≡ entered (record { kind = 3; name = 102; units = 1; value = 106; size = 4; parent = 0 }) (at 10)
   pub record-cut : read (take 9 u32Record) 100 .stop ≡ fault 6
+  -- "level 0B 00 01 00 00 00, u64 17, 01 00 01, eight zeros: unnamed list of one true. Length 13: 10."
   pub level-17 : valueAt (oneTrue 17) (read (oneTrue 17) 0 .entries) 0 ≡ list (1 ∷ [])
   pub level-17-one : valueAt (oneTrue 17) (read (oneTrue 17) 0 .entries) 1 ≡ flag true
   pub level-17-unnamed : map nameUnitsOf (read (oneTrue 17) 0 .entries) ≡ 0 ∷ 0 ∷ []
   pub level-13 : read (oneTrue 13) 0 .stop ≡ fault 10
+  -- "colour 0x00332211: 0x11, 0x22, 0x33. eCompression 2.9 passes, 1.9 gives 12."
   pub colour : planeOf 0x00332211 ≡ record { named = 0; name = 0; units = 0; colored = 1; red = 0x11; green = 0x22; blue = 0x33 }
   pub compression-2·9 : attributesOf 12 0x4007333333333333 ≡ given (shaped 12)
   pub compression-1·9 : attributesOf 12 0x3FFE666666666666 ≡ refused 12
+  -- "dZHigh 10, dZLow −10, uiCount 11: 2.0. uiCount 1: none."
   pub step-11 : stepOf 11 ≡ some (ofBits binary64 0x4000000000000000)
   pub step-1 : stepOf 1 ≡ none
-
-pub starred : Starred
-unfolding attributesOf stepOf planeOf attributesData stackData planeData u32Record oneTrue seqIndex attributes read channelOf zStep valueAt field le units lossy badShape badBits uncompressed asLevel bind unsigned signed below32 refuseIf andThen orRefuse float slotValue slotsOf nameOf putNamed same toSigned ofBits putUnnamed elements loopParams orZero div magnitude sub ofInt childLevels
-starred = record {
-  seq-times-first = refl;
-  seq-scenes-first = refl;
-  place = refl;
-  row-12 = refl;
-  row-11 = refl;
-  record-u32 = refl;
-  record-cut = refl;
-  level-17 = refl;
-  level-17-one = refl;
-  level-17-unnamed = refl;
-  level-13 = refl;
-  colour = refl;
-  compression-2·9 = refl;
-  compression-1·9 = refl;
-  step-11 = refl;
-  step-1 = refl;
-}

@@ -1,0 +1,36 @@
+-- The starred lines of document 01 hold of the definitions. Assumes nothing.
+use mathlib.Core.Path.{refl}
+use lib.Ieee.{ofBits, ofInt, toSigned, div, sub}
+use Rattle.format.specs.Bytes.{le, leBytes, same}
+use Rattle.format.specs.Text.{units, lossy}
+use Rattle.format.specs.Answer.{refuseIf, andThen, orRefuse}
+use Rattle.format.specs.Trees.{read}
+use Rattle.format.specs.Values.{nameOf, putNamed, putUnnamed, valueAt, slotsOf, elements, field, slotValue, asLevel, bind}
+use Rattle.format.specs.Numbers.{unsigned, signed, below32, float, magnitude}
+use Rattle.format.specs.Attributes.{attributes, badShape, badBits, uncompressed}
+use Rattle.format.specs.Loops.{loopParams, orZero, childLevels}
+use Rattle.format.specs.Calibration.{zStep}
+use Rattle.format.specs.Frames.{seqIndex}
+use Rattle.format.specs.Channels.{channelOf}
+use Rattle.format.specs.Edges.{attributesData, attributesOf, stackData, stepOf, planeData, planeOf, u32Record, oneTrue, Starred}
+
+pub starred : Starred
+unfolding leBytes attributesOf stepOf planeOf attributesData stackData planeData u32Record oneTrue seqIndex attributes read channelOf zStep valueAt field le units lossy badShape badBits uncompressed asLevel bind unsigned signed below32 refuseIf andThen orRefuse float slotValue slotsOf nameOf putNamed same toSigned ofBits putUnnamed elements loopParams orZero div magnitude sub ofInt childLevels
+starred = record {
+  seq-times-first = refl;
+  seq-scenes-first = refl;
+  place = refl;
+  row-12 = refl;
+  row-11 = refl;
+  record-u32 = refl;
+  record-cut = refl;
+  level-17 = refl;
+  level-17-one = refl;
+  level-17-unnamed = refl;
+  level-13 = refl;
+  colour = refl;
+  compression-2·9 = refl;
+  compression-1·9 = refl;
+  step-11 = refl;
+  step-1 = refl;
+}
