@@ -1,8 +1,8 @@
 -- A tree's entries are a forest in file order: each comes after its parent, and a level's children stand together. Assumes nothing.
 use Prim.Native.Nat.{ℕ, zero, suc, _+_, _-_, _≤_, _<_}
-use mathlib.Core.Path.{_≡_, refl, sym, ap, _∙_}
+use mathlib.Core.Path.{_≡_, refl, ap, _∙_}
 use mathlib.Core.Logic.{_⊎_, inl, inr}
-use mathlib.Core.Option.{Option, none, some}
+use mathlib.Core.Option.{none, some}
 use mathlib.Core.List.{List, [], _∷_, _++_}
 use native.Mathlib.Omega.{arith}
 use native.Mathlib.Decide.{decLt}
@@ -98,10 +98,13 @@ forest-nested p u l q i k x y (tree e ks rs w f r) o h m a b c d =
   where
     kid : (j : ℕ) (z : Entry) → getElem? ks j ≡ some z → u < z .parent
     kid j z g = above u (z .parent) (forest-placed (suc u) (suc u) ks j z f (omega arith) g .from)
+
     late : (j : ℕ) (z : Entry) → getElem? rs j ≡ some z → (z .parent ≡ p → ⊥) → suc u + length ks < z .parent
     late j z g = forest-placed p (suc u + length ks) rs j z r (omega arith) g .from
+
     first : x ≡ e → x .parent ≡ p
     first g = ap (λ (n : Entry). n .parent) g ∙ w
+
     go : ((i k : ℕ) → getElem? ks i ≡ some x → getElem? ks k ≡ some y → i ≤ k → q ≤ suc u + i → x .parent < q → y .parent ≡ q → ⊥)
         → ((i k : ℕ) → getElem? rs i ≡ some x → getElem? rs k ≡ some y → i ≤ k → q ≤ suc u + length ks + i → x .parent < q → y .parent ≡ q → ⊥)
         → Where e ks rs i x → Where e ks rs k y → ⊥

@@ -1,12 +1,11 @@
 -- Laws of a list's elements, and of going from one to the next. Assumes nothing.
 use Prim.Native.Nat.{ℕ, zero, suc, _+_, _*_, _-_, _≤_, _<_}
 use mathlib.Core.Path.{_≡_, refl, sym, ap, _∙_, subst}
-use mathlib.Core.Logic.{_⊎_, inl, inr}
-use mathlib.Core.Bool.{Bool, true, false, not, _&&_, _||_, cond}
+use mathlib.Core.Bool.{Bool, true, false, _&&_, cond}
 use mathlib.Core.Option.{Option, none, some}
 use mathlib.Core.List.{List, [], _∷_, _++_, append-assoc, append-nil}
 use native.Mathlib.Omega.{arith}
-use native.Mathlib.Nat.{zero-add, add-zero, sub-zero, add-mul, one-mul}
+use native.Mathlib.Nat.{add-mul, one-mul}
 use native.Mathlib.Numerals.{add-one, sub-one}
 use lib.ListN.{length, getElem?, take, drop, length-append}
 use lib.Dec.{eqb}
@@ -15,7 +14,7 @@ use Rattle.format.proofs.Tests.{and-right}
 use Rattle.format.proofs.Lookups.{leaf-by}
 use Rattle.format.proofs.Puts.{step, put-some}
 use Rattle.format.specs.Bytes.{same}
-use Rattle.format.specs.Values.{Value, level, list, Slot, named, unnamed, putNamed, putUnnamed, put, nameOf, slotsOf, slotsFrom, collapse, elements, spread, valueAt, valueFrom, valueIf, leaf}
+use Rattle.format.specs.Values.{Value, level, list, Slot, named, unnamed, putNamed, putUnnamed, put, nameOf, slotsOf, collapse, elements, spread, valueFrom, valueIf, leaf}
 use Rattle.format.specs.declared.Entry.{Entry}
 use Rattle.lookup.specs.Table.{firsts, Ordered, found}
 use Rattle.lookup.specs.Values.{onlyUnnamed, unnamedIn, elementsFrom, elementsOf, unnamedChild, kids, headOf, listAt}

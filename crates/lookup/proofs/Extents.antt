@@ -1,9 +1,9 @@
 -- The entries of a tree lie in the file, and their numbers are small. Assumes nothing.
-use Prim.Native.Nat.{ℕ, suc, _+_, _*_, _-_, _≤_, _<_}
-use mathlib.Core.Path.{_≡_, refl, sym, _∙_}
+use Prim.Native.Nat.{ℕ, suc, _+_, _-_, _≤_}
+use mathlib.Core.Path.{_≡_, refl, _∙_}
 use mathlib.Core.List.{List, [], _∷_, _++_}
 use native.Mathlib.Omega.{arith}
-use lib.ListN.{length, getD, length-append}
+use lib.ListN.{length, length-append}
 use Rattle.format.specs.Grammar.Trees.{valueStart, Head, Fixed, bool, i32, u32, i64, u64, f64, pointer, Plain, fixed, text-ended, text-cut, bytes, countAt, kidsFrom, kidsTo, levelTo, Records, counted, quiet, plain, nested}
 use Rattle.format.specs.Trees.{fixedLen, entryOf}
 use Rattle.format.specs.declared.Entry.{Entry}
@@ -56,11 +56,11 @@ module _ (d : List ℕ) (base n m : ℕ) (within : base + length d ≤ n) where
       record {
         kind = omega (arith, b .kind);
         lies =
-          record {
-            name = omega arith;
-            value = omega (arith, b .value);
-            fixed = λ x y v. let f : from + fixedLen k ≤ length d = b .fixed (λ t. x (z ∙ t)) (λ t. y (z ∙ t)) (λ t. v (z ∙ t)) in rw z (omega arith);
-          };
+            record {
+              name = omega arith;
+              value = omega (arith, b .value);
+              fixed = λ x y v. let f : from + fixedLen k ≤ length d = b .fixed (λ t. x (z ∙ t)) (λ t. y (z ∙ t)) (λ t. v (z ∙ t)) in rw z (omega arith);
+            };
         parent = q;
       }
 
@@ -68,13 +68,15 @@ module _ (d : List ℕ) (base n m : ℕ) (within : base + length d ≤ n) where
       → e ≤ length d → parent ≤ m → used + length es ≤ m → AllEntered n m es
   records-entered left parent count used i e es p counted l q s = tt
   records-entered left parent count used i e es p (quiet h) l q s = tt
-  records-entered left parent count used i e es p (plain {count = c} {k = k} {from} {len} {p = x} {es = fs} h v r) l q s =
-      (head-entered parent i e k from len h l q (plain-ends d e (valueStart d i) k from len x v l),
-      records-entered left parent c (used + 1) x e fs p r l q (omega arith))
+  records-entered left parent count used i e es p (plain {count = c} {k = k} {from} {len} {p = x} {es = fs} h v r) l q s = (
+    head-entered parent i e k from len h l q (plain-ends d e (valueStart d i) k from len x v l),
+    records-entered left parent c (used + 1) x e fs p r l q (omega arith),
+  )
   records-entered left parent count used i e es p (nested {left = left′} {count = c} {p = x} {ks = ks} {es = fs} v kr h r) l q s =
-      let t = simp length-append at s in
-      (head-entered parent i e 11 (kidsFrom d i) (kidsTo d i - kidsFrom d i) (v .head) l q
-      (record { kind = omega arith; value = omega (arith, v .length-least, v .kids-within); fixed = λ a b c. absurd (c refl) }),
-      entered-append n m ks fs
-      (records-entered left′ (suc used) (countAt d i) (suc used) (kidsFrom d i) (kidsTo d i) ks x kr (omega (arith, v .kids-within)) (omega arith) (omega arith))
-      (records-entered left parent c (used + suc (length ks)) (levelTo d i) e fs p r l q (omega arith)))
+      let t = simp length-append at s in (
+        head-entered parent i e 11 (kidsFrom d i) (kidsTo d i - kidsFrom d i) (v .head) l q
+            (record { kind = omega arith; value = omega (arith, v .length-least, v .kids-within); fixed = λ a b c. absurd (c refl) }),
+        entered-append n m ks fs
+            (records-entered left′ (suc used) (countAt d i) (suc used) (kidsFrom d i) (kidsTo d i) ks x kr (omega (arith, v .kids-within)) (omega arith) (omega arith))
+            (records-entered left parent c (used + suc (length ks)) (levelTo d i) e fs p r l q (omega arith)),
+      )

@@ -5,7 +5,7 @@ use mathlib.Core.Option.{some}
 use mathlib.Core.List.{List, [], _∷_, _++_, append-assoc}
 use native.Mathlib.Nat.{add-zero}
 use native.Mathlib.Omega.{arith}
-use lib.ListN.{length, drop, getElem?, length-append, length-take, length-drop}
+use lib.ListN.{length, getElem?, length-append, length-take, length-drop}
 use Rattle.format.proofs.Answers.{none≢some}
 use Rattle.format.proofs.Bytes.{le-after, le-before, le-leBytes, leBytes-length}
 use Rattle.format.proofs.Forest.{Forest, forest-placed, forest-nested, tree-forest}
@@ -18,7 +18,7 @@ use Rattle.format.specs.Grammar.Trees.{Tree}
 use Rattle.format.specs.Trees.{Read, at, read, treeIn, entryBytes, tableBytes}
 use Rattle.format.specs.declared.Entry.{Entry}
 use Rattle.format.specs.declared.Range.{Range}
-use Rattle.lookup.specs.Table.{entryIn, firsts, entriesIn, Lies, Ordered, Rows, Holds}
+use Rattle.lookup.specs.Table.{entryIn, firsts, entriesIn, Rows, Holds}
 use Rattle.lookup.proofs.Rows.{getElem-firsts}
 use Rattle.lookup.proofs.Extents.{Entered, AllEntered, records-entered}
 
@@ -58,7 +58,7 @@ module _ (n m : ℕ) (small-file : n < 2 ^ 64) (small-table : m < 2 ^ 64) where
   unfolding entryIn
   entry-later e ys i =
       let q : (j : ℕ) → le 8 (entryBytes e ++ ys) (48 * suc i + j) ≡ le 8 ys (48 * i + j) =
-        λ j. ap (le 8 (entryBytes e ++ ys)) (let x : 48 * suc i + j ≡ length (entryBytes e) + (48 * i + j) = rw length-entry (omega arith) in x) ∙ le-after 8 (entryBytes e) ys (48 * i + j) in
+      λ j. ap (le 8 (entryBytes e ++ ys)) (let x : 48 * suc i + j ≡ length (entryBytes e) + (48 * i + j) = rw length-entry (omega arith) in x) ∙ le-after 8 (entryBytes e) ys (48 * i + j) in
       let q0 : le 8 (entryBytes e ++ ys) (48 * suc i) ≡ le 8 ys (48 * i) = simp add-zero at (q 0) in
       λ k. record { kind = q0 k; name = q 8 k; units = q 16 k; value = q 24 k; size = q 32 k; parent = q 40 k }
 
@@ -100,18 +100,18 @@ unfolding part
 tree-ready s r es ys small within few t =
     record {
       holds =
-        record {
-          rows =
-            record {
-              room = rw (length-append, length-table) (omega arith);
-              order =
+          record {
+            rows =
                 record {
-                  older = λ i l. let h = forest-placed 0 0 es i _ g (omega arith) (entry i l) .old in omega arith;
-                  nested = λ p i k a b c d e. forest-nested 0 0 es p i k _ _ g (omega arith) (entry i (omega arith)) (entry k c) b (omega arith) d e;
+                  room = rw (length-append, length-table) (omega arith);
+                  order =
+                      record {
+                        older = λ i l. let h = forest-placed 0 0 es i _ g (omega arith) (entry i l) .old in omega arith;
+                        nested = λ p i k a b c d e. forest-nested 0 0 es p i k _ _ g (omega arith) (entry i (omega arith)) (entry k c) b (omega arith) d e;
+                      };
                 };
-            };
-          lie = λ i l. entered-at (length s) (length es) es i _ f (entry i l) .lies;
-        };
+            lie = λ i l. entered-at (length s) (length es) es i _ f (entry i l) .lies;
+          };
       entries = back;
     }
   where

@@ -1,7 +1,7 @@
 -- What comes after entry i comes after k, an entry in whose front i stands.
-use Prim.Native.Nat.{ℕ, _≤_, _<_, _-_}
+use Prim.Native.Nat.{ℕ, _<_, _-_}
 use native.Mathlib.Omega.{arith}
-use mathlib.Core.Path.{_≡_, sym, ap, _∙_, subst}
+use mathlib.Core.Path.{sym, _∙_}
 use mathlib.Core.List.{List}
 use Rattle.lookup.specs.Table.{entryIn, found}
 use Rattle.lookup.proofs.Elements.{After, after-number, number-next, next-found, next-none, next-up, next-root}
