@@ -10,7 +10,7 @@ use Rattle.format.proofs.Tables.{length-entry}
 use Rattle.format.specs.Bytes.{le, leBytes, over}
 use Rattle.format.specs.Trees.{entryBytes, tableBytes}
 use Rattle.format.specs.declared.Entry.{Entry}
-use Rattle.tree.specs.Table.{Fit, AllFit, entryIn, firsts, entriesIn, Holds}
+use Rattle.tree.specs.Table.{Fit, AllFit, entryIn, firsts, entriesIn, Filled}
 
 -- the number in the first eight bytes, and past the first eight
 here : (v : ℕ) (ys : List ℕ) → v < 2 ^ 64 → le 8 (leBytes 8 v ++ ys) 0 ≡ v
@@ -76,14 +76,14 @@ entries-back (e ∷ es) ys f =
     ∙ ap (λ (l : List Entry). e ∷ l) (b ∙ entries-back es ys (f .1))
 
 -- the same of a table that holds them
-module _ {t : List ℕ} {n : ℕ} {es : List Entry} (h : Holds t n es) where
-  pub held-entry : (i : ℕ) (z : Entry) → i < length es → entryIn t i ≡ getD es i z
+module _ {t : List ℕ} {n : ℕ} {es : List Entry} (h : Filled t n es) where
+  pub filled-entry : (i : ℕ) (z : Entry) → i < length es → entryIn t i ≡ getD es i z
   unfolding over
-  held-entry i z l = rw (h .bytes) (entry-back es _ i z (h .fit) l)
+  filled-entry i z l = rw (h .bytes) (entry-back es _ i z (h .fit) l)
 
-  pub held-entries : entriesIn t (length es) ≡ es
+  pub filled-entries : entriesIn t (length es) ≡ es
   unfolding over
-  held-entries = rw (h .bytes) (entries-back es _ (h .fit))
+  filled-entries = rw (h .bytes) (entries-back es _ (h .fit))
 
 -- each number of an entry fits
 pub fit-at : (es : List Entry) (i : ℕ) (z : Entry) → AllFit es → i < length es → Fit (getD es i z)

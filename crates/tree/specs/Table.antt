@@ -28,7 +28,7 @@ unfoldable pub putAll : List ℕ → ℕ → List Entry → List ℕ
 putAll t u es = sets t (48 * u) (tableBytes es)
 
 -- t is a table of n bytes with the entries es, and zeros after them
-pub record Holds (t : List ℕ) (n : ℕ) (es : List Entry) : Type 0 where
+pub record Filled (t : List ℕ) (n : ℕ) (es : List Entry) : Type 0 where
   pub bytes : t ≡ over (tableBytes es) (zeros n)
   pub room : 48 * length es ≤ n
   pub fit : AllFit es

@@ -99,8 +99,8 @@ fn edges() {
     );
 }
 
-// Too few bytes for a record, and values of each kind.
-fn values() {
+// Too few bytes for a record, and values of a fixed size.
+fn fixed() {
     show(b"empty", b"", 0, 4096);
     show(b"one byte", b"\x03", 0, 4096);
     show(b"two bytes", b"\x01\x00", 0, 4096);
@@ -110,6 +110,10 @@ fn values() {
         1000,
         4096,
     );
+}
+
+// Texts, and bytes.
+fn sized() {
     show(
         b"text",
         b"\x08\x02a\x00\x00\x00x\x00y\x00\x00\x00z\x00",
@@ -289,7 +293,8 @@ fn depths() {
 
 fn main() {
     edges();
-    values();
+    fixed();
+    sized();
     levels();
     heads();
     headers();
