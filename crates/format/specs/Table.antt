@@ -1,5 +1,5 @@
 -- "Trees": entries as they stand in a lent table. "Entries are six u64".
-use Prim.Native.Nat.{ℕ, zero, suc, _+_, _*_}
+use Prim.Native.Nat.{ℕ, zero, suc, _+_, _*_, _^_, _<_}
 use mathlib.Core.List.{List, [], _∷_, _++_}
 use Rattle.format.specs.Bytes.{le}
 use Rattle.format.specs.declared.Entry.{Entry}
@@ -24,3 +24,16 @@ firsts (suc n) e = firsts n e ++ e n ∷ []
 -- the first n entries of a table
 abbrev pub entriesIn : List ℕ → ℕ → List Entry
 entriesIn t n = firsts n (entryIn t)
+
+-- each number of an entry fits 64 bits
+pub record Fit (e : Entry) : Type 0 where
+  pub kind : e .kind < 2 ^ 64
+  pub name : e .name < 2 ^ 64
+  pub units : e .units < 2 ^ 64
+  pub value : e .value < 2 ^ 64
+  pub size : e .size < 2 ^ 64
+  pub parent : e .parent < 2 ^ 64
+
+abbrev pub AllFit : List Entry → Type 0
+AllFit [] = Unit
+AllFit (e ∷ es) = Fit e × AllFit es

@@ -1,27 +1,14 @@
 -- The table of a tree: entries stored in it, and entries as they stand there.
-use Prim.Native.Nat.{ℕ, _*_, _^_, _≤_, _<_}
+use Prim.Native.Nat.{ℕ, _*_, _≤_}
 use mathlib.Core.Path.{_≡_}
-use mathlib.Core.List.{List, [], _∷_}
+use mathlib.Core.List.{List}
 use lib.ListN.{length}
 use lib.Seq.{sets}
 use Rattle.format.specs.Bytes.{over, zeros}
 use Rattle.format.specs.Trees.{tableBytes}
 use Rattle.format.specs.declared.Entry.{Entry}
 unfoldable pub use Rattle.format.specs.Table.{entryIn, firsts}
-pub use Rattle.format.specs.Table.{entriesIn}
-
--- each number of an entry fits 64 bits
-pub record Fit (e : Entry) : Type 0 where
-  pub kind : e .kind < 2 ^ 64
-  pub name : e .name < 2 ^ 64
-  pub units : e .units < 2 ^ 64
-  pub value : e .value < 2 ^ 64
-  pub size : e .size < 2 ^ 64
-  pub parent : e .parent < 2 ^ 64
-
-abbrev pub AllFit : List Entry → Type 0
-AllFit [] = Unit
-AllFit (e ∷ es) = Fit e × AllFit es
+pub use Rattle.format.specs.Table.{entriesIn, Fit, AllFit}
 
 -- the table t with the entries es stored from number u on
 unfoldable pub putAll : List ℕ → ℕ → List Entry → List ℕ
