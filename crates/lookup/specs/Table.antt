@@ -3,36 +3,17 @@ use Prim.Native.Nat.{ℕ, zero, suc, _+_, _-_, _*_, _≤_, _<_}
 use mathlib.Core.Path.{_≡_}
 use mathlib.Core.Bool.{Bool, _&&_, cond}
 use mathlib.Core.Option.{Option, none, some}
-use mathlib.Core.List.{List, [], _∷_, _++_}
+use mathlib.Core.List.{List, [], _∷_}
 use lib.ListN.{length}
 use lib.Dec.{eqb}
-use Rattle.format.specs.Bytes.{le, same}
+use Rattle.format.specs.Bytes.{same}
 use Rattle.format.specs.Trees.{fixedLen}
 use Rattle.format.specs.Values.{nameOf}
 use Rattle.format.specs.declared.Entry.{Entry}
 use Rattle.lookup.specs.declared.Found.{Found}
 use Rattle.lookup.specs.declared.Found.the-variants.{At, Nothing}
-
--- entry number i, as it stands in a table
-unfoldable pub entryIn : List ℕ → ℕ → Entry
-entryIn t i =
-    record {
-      kind = le 8 t (48 * i);
-      name = le 8 t (48 * i + 8);
-      units = le 8 t (48 * i + 16);
-      value = le 8 t (48 * i + 24);
-      size = le 8 t (48 * i + 32);
-      parent = le 8 t (48 * i + 40);
-    }
-
--- the first n of a row of entries
-unfoldable pub firsts : ℕ → (ℕ → Entry) → List Entry
-firsts zero e = []
-firsts (suc n) e = firsts n e ++ e n ∷ []
-
--- the first n entries of a table
-abbrev pub entriesIn : List ℕ → ℕ → List Entry
-entriesIn t n = firsts n (entryIn t)
+unfoldable pub use Rattle.format.specs.Table.{entryIn, firsts}
+pub use Rattle.format.specs.Table.{entriesIn}
 
 -- ---- numbers of entries
 
