@@ -9,6 +9,7 @@ use lib.Dec.{eqb, ltb, leb}
 use lib.ListN.{length, getD, length-append, length-take}
 use borrow.Author.Tests.{ltb-true, ltb-false, leb-true, leb-false}
 use Rattle.format.proofs.Tests.{and-left, and-right}
+use Rattle.format.proofs.Text.{length-units}
 use Rattle.format.proofs.Reading.{pick-by, stopIf-by}
 use Rattle.format.specs.Bytes.{le, part}
 use Rattle.format.specs.Text.{units}
@@ -40,11 +41,6 @@ text-units (u ∷ us) = go (eqb u 0) (text-units us)
     go : (b : Bool) → textUnits us ≤ length us → cond b 0 (suc (textUnits us)) ≤ suc (length us)
     go true h = omega arith
     go false h = omega arith
-
-length-units : (n : ℕ) (s : List ℕ) (i : ℕ) → length (units n s i) ≡ n
-unfolding units
-length-units zero s i = refl
-length-units (suc n) s i = ap suc (length-units n s (i + 2))
 
 module _ (start v e : ℕ) (head : start + 2 ≤ v) (fits : v ≤ e) (entry : ℕ → ℕ → Entry) where
   fixed-fits : (n : ℕ) → Fits start e (fixedValue n v e entry)
