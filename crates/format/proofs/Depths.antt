@@ -1,18 +1,18 @@
 -- A tree's entries have depths: a level's is below 64, and a record's is above its parent's. Assumes nothing.
-use Prim.Native.Nat.{ℕ, zero, suc, _+_, _-_, _*_, _≤_, _<_}
-use mathlib.Core.Path.{_≡_, refl, sym, ap, _∙_, subst}
-use mathlib.Core.Bool.{Bool, true, false, cond}
-use mathlib.Core.Option.{Option, none, some}
+use Prim.Native.Nat.{ℕ, zero, suc, _+_, _-_, _≤_, _<_}
+use mathlib.Core.Path.{_≡_, refl, sym, _∙_}
+use mathlib.Core.Bool.{cond}
+use mathlib.Core.Option.{some}
 use mathlib.Core.List.{List, [], _∷_, _++_}
 use native.Mathlib.Omega.{arith}
 use lib.Dec.{eqb}
-use lib.ListN.{length, getD, getElem?, length-append}
+use lib.ListN.{length, getElem?}
 use borrow.Author.Tests.{eq-eqb, ne-eqb}
 use Rattle.format.proofs.Answers.{none≢some}
-use Rattle.format.specs.Bytes.{le, part}
+use Rattle.format.specs.Bytes.{part}
 use Rattle.format.specs.declared.Range.{Range}
 use Rattle.format.specs.Trees.{entryOf, mostDepth}
-use Rattle.format.specs.Grammar.Trees.{valueStart, Head, Plain, fixed, text-ended, text-cut, bytes, Fixed, bool, i32, u32, i64, u64, f64, pointer, Level, countAt, kidsFrom, kidsTo, levelTo, Records, counted, quiet, plain, nested, Tree}
+use Rattle.format.specs.Grammar.Trees.{valueStart, Plain, fixed, text-ended, text-cut, bytes, bool, i32, u32, i64, u64, f64, pointer, countAt, kidsFrom, kidsTo, levelTo, Records, counted, quiet, plain, nested, Tree}
 use Rattle.format.specs.declared.Entry.{Entry}
 
 -- the entries es, numbered from n on, have the depths D
@@ -33,6 +33,22 @@ ranked-same D E n (e ∷ es) h (cons a b t) =
     let here : D n ≡ E n = h n (omega arith) in
     cons (λ k. rw here at (a k)) (λ y p. let (l, m) = b y p in let there : D y ≡ E y = h y (omega arith) in (l, rw (here, there) at m))
     (ranked-same D E (suc n) es (λ x l. h x (omega arith)) t)
+
+ranked-at : (D : ℕ → ℕ) (n x : ℕ) (es : List Entry) (e : Entry) → Ranked D n es → getElem? es x ≡ some e
+    → (e .kind ≡ 11 → D (n + x) < mostDepth) × ((y : ℕ) → e .parent ≡ suc y → D y < D (n + x))
+ranked-at D n x [] e nil q = absurd (none≢some q)
+ranked-at D n zero (f ∷ es) e (cons a b r) q =
+    let k : n + 0 ≡ n = omega arith in
+    let z : f ≡ e = cc in
+    rw (k, ← z) (a, λ y p. b y p .1)
+ranked-at D n (suc x) (f ∷ es) e (cons a b r) q = let k : n + suc x ≡ suc n + x = omega arith in rw k (ranked-at D (suc n) x es e r q)
+
+module _ (D : ℕ → ℕ) (es : List Entry) (r : Ranked D 0 es) (x : ℕ) (e : Entry) (q : getElem? es x ≡ some e) where
+  pub level-depth : e .kind ≡ 11 → D x < mostDepth
+  level-depth = let k : 0 + x ≡ x = omega arith in rw k at (ranked-at D 0 x es e r q .0)
+
+  pub child-depth : (y : ℕ) → e .parent ≡ suc y → D y < D x
+  child-depth = let k : 0 + x ≡ x = omega arith in rw k at (ranked-at D 0 x es e r q .1)
 
 -- D with another value at n
 put : (ℕ → ℕ) → ℕ → ℕ → ℕ → ℕ

@@ -1,60 +1,98 @@
--- Different frames have different names in the map. Assumes nothing.
+-- A frame's name is the grammar's, and different frames have different names in the map. Assumes nothing.
 use Prim.Native.Nat.{ℕ, zero, suc, _+_, _-_, _*_, _/_, _%_, _^_, _≤_, _<_}
-use mathlib.Core.Path.{_≡_, refl, sym, ap, _∙_, subst}
+use mathlib.Core.Path.{_≡_, refl, sym, ap, _∙_}
 use mathlib.Core.Bool.{Bool, true, false, cond}
-use mathlib.Core.List.{List, [], _∷_, _++_}
-use native.Mathlib.Nat.{suc-mul, mul-le-mul-right, mul-le-mul, mul-assoc, mul-one, one-mul, pow-succ', pow-le-pow-right}
+use mathlib.Core.List.{List, [], _∷_, _++_, append-assoc, append-nil}
+use native.Mathlib.Nat.{mul-le-mul, pow-succ', pow-le-pow-right}
 use native.Mathlib.Omega.{arith}
 use lib.Dec.{ltb}
 use lib.ListN.{length, drop, length-take}
-use borrow.Author.Tests.{ltb-true, ltb-false}
-use Rattle.format.proofs.Frames.{Below, none, one, index, within-below, seq-different}
+use borrow.Author.Tests.{ltb-true, ltb-false, lt-ltb}
+use Rattle.format.proofs.Frames.{seq-different}
+use Rattle.format.proofs.Triples.{seq-below}
 use Rattle.format.specs.Bytes.{ascii}
-use Rattle.format.specs.Loops.{mostCount, axisNumber}
+use Rattle.format.specs.Loops.{mostCount}
 use Rattle.format.specs.Summary.{loopsOf}
-use Rattle.format.specs.Frames.{indexOf, seqFrom, seqIndex, frames, digitsFrom, decimal, frameName}
-use Rattle.format.specs.Grammar.Loops.{Distinct, Counted}
-use Rattle.format.specs.Grammar.Loops.{nil, cons}
-use Rattle.format.specs.Grammar.Plane.{Within, Sound}
+use Rattle.format.specs.Frames.{seqIndex, frames, digitsFrom, decimal, frameName}
+use Rattle.format.specs.Grammar.Frames.{Decimal, digit, digits, FrameName}
+use Rattle.format.specs.Grammar.Loops.{Counted}
+use Rattle.format.specs.Grammar.Loops.{cons}
+use Rattle.format.specs.Refused.Summary.{Sound}
+use Rattle.format.specs.Refused.Plane.{Within}
 use Rattle.format.specs.declared.Loop.{Loop}
 use Rattle.format.specs.declared.Summary.{Summary}
+
+-- ---- decimal digits
 
 -- the number that decimal digits stand for, after a
 number : ℕ → List ℕ → ℕ
 number a [] = a
 number a (c ∷ cs) = number (a * 10 + (c - 48)) cs
 
-digits-number : (fuel n : ℕ) (r t : List ℕ) → n < 10 ^ fuel → number 0 (digitsFrom fuel n r ++ t) ≡ number n (r ++ t)
-unfolding digitsFrom number
-digits-number zero n r t h = let z : n ≡ 0 = omega arith in rw z refl
-digits-number (suc fuel) n r t h = go (ltb n 10) refl (digits-number fuel (n / 10) ((48 + n % 10) ∷ r) t)
-  where
-    less : n / 10 < 10 ^ fuel
-    less = let k : 10 ^ suc fuel ≡ 10 * 10 ^ fuel = omega arith in omega arith
+decimal-number : {n : ℕ} {ds : List ℕ} → Decimal n ds → (t : List ℕ) → number 0 (ds ++ t) ≡ number n t
+unfolding number
+decimal-number (digit {n} h) t = let k : 0 * 10 + (48 + n - 48) ≡ n = omega arith in ap (λ (x : ℕ). number x t) k
+decimal-number (digits {n} {d} {ds} h r l) t =
+    let k : n * 10 + (48 + d - 48) ≡ n * 10 + d = omega arith in
+    rw append-assoc (decimal-number r ((48 + d) ∷ t) ∙ ap (λ (x : ℕ). number x t) k)
 
-    go : (b : Bool) → ltb n 10 ≡ b → (n / 10 < 10 ^ fuel → number 0 (digitsFrom fuel (n / 10) ((48 + n % 10) ∷ r) ++ t) ≡ number (n / 10) (((48 + n % 10) ∷ r) ++ t))
-        → number 0 (cond b ((48 + n) ∷ r) (digitsFrom fuel (n / 10) ((48 + n % 10) ∷ r)) ++ t) ≡ number n (r ++ t)
-    go true q ih = let k : 0 * 10 + (48 + n - 48) ≡ n = omega arith in ap (λ (x : ℕ). number x (r ++ t)) k
-    go false q ih = let k : n / 10 * 10 + (48 + n % 10 - 48) ≡ n = omega arith in ih less ∙ ap (λ (x : ℕ). number x (r ++ t)) k
+-- a number has one spelling
+same-digits : {n m : ℕ} {ds es : List ℕ} → Decimal n ds → Decimal m es → n ≡ m → ds ≡ es
+same-digits (digit h) (digit k) e = rw e refl
+same-digits (digit h) (digits {n = m} k r l) e = absurd (omega arith)
+same-digits (digits {n} k r l) (digit h) e = absurd (omega arith)
+same-digits (digits {n} {d} h r l) (digits {n = m} {d = c} k q j) e =
+    let e₁ : n ≡ m = omega arith in
+    let e₂ : d ≡ c = omega arith in
+    rw (same-digits r q e₁, e₂) refl
+
+-- n's digits with those of r behind them
+abbrev Spelled : ℕ → List ℕ → List ℕ → Type 0
+Spelled n r out = (ds : List ℕ) × Decimal n ds × (out ≡ ds ++ r)
+
+digits-decimal : (fuel n : ℕ) (r : List ℕ) → n < 10 ^ suc fuel → Spelled n r (digitsFrom (suc fuel) n r)
+unfolding digitsFrom
+digits-decimal zero n r h = let l : n < 10 = omega arith in rw (lt-ltb n 10 l) ((48 + n) ∷ [], digit l, refl)
+digits-decimal (suc fuel) n r h = go (ltb n 10) refl (digits-decimal fuel (n / 10) ((48 + n % 10) ∷ r) shorter)
+  where
+    shorter : n / 10 < 10 ^ suc fuel
+    shorter = let k : 10 ^ suc (suc fuel) ≡ 10 * 10 ^ suc fuel = omega arith in omega arith
+
+    last : (ds : List ℕ) → 10 ≤ n → Decimal (n / 10) ds → Decimal n (ds ++ (48 + n % 10) ∷ [])
+    last ds h d = let k : n / 10 * 10 + n % 10 ≡ n = omega arith in rw k at (digits {n = n / 10} {d = n % 10} (omega arith) d (omega arith))
+
+    go : (b : Bool) → ltb n 10 ≡ b → Spelled (n / 10) ((48 + n % 10) ∷ r) (digitsFrom (suc fuel) (n / 10) ((48 + n % 10) ∷ r))
+        → Spelled n r (cond b ((48 + n) ∷ r) (digitsFrom (suc fuel) (n / 10) ((48 + n % 10) ∷ r)))
+    go true q x = ((48 + n) ∷ [], digit (ltb-true _ _ q), refl)
+    go false q (ds, d, e) = (ds ++ (48 + n % 10) ∷ [], last ds (ltb-false _ _ q) d, e ∙ sym (append-assoc ds ((48 + n % 10) ∷ []) r))
+
+decimal-of : (n : ℕ) → n < 10 ^ 20 → Decimal n (decimal n)
+unfolding decimal
+decimal-of n h = let (ds, d, e) = digits-decimal 19 n [] h in rw (e ∙ append-nil ds) d
+
+-- ---- names
+
+-- the name that is looked for is the grammar's
+pub frame-name : (n : ℕ) → n < 10 ^ 20 → FrameName n (frameName n)
+unfolding frameName
+frame-name n h = record { number = decimal n; decimal = decimal-of n h; spelled = append-assoc (ascii "ImageDataSeq|") (decimal n) (ascii "!") }
+
+-- a frame has one name
+pub frame-name-unique : {n : ℕ} {a b : List ℕ} → FrameName n a → FrameName n b → a ≡ b
+frame-name-unique x y = rw (x .spelled, y .spelled, same-digits (x .decimal) (y .decimal) refl) refl
+
+-- and a name one frame
+pub frame-number-unique : {n m : ℕ} {a : List ℕ} → FrameName n a → FrameName m a → n ≡ m
+unfolding number ascii
+frame-number-unique {n} {m} x y =
+    let q : x .number ++ (33 ∷ []) ≡ y .number ++ (33 ∷ []) = ap (drop 13) (sym (x .spelled) ∙ y .spelled) in
+    let k : n * 10 + (33 - 48) ≡ m * 10 + (33 - 48) = sym (decimal-number (x .decimal) (33 ∷ [])) ∙ (ap (number 0) q ∙ decimal-number (y .decimal) (33 ∷ [])) in
+    omega arith
 
 pub name-different : (n m : ℕ) → n < 10 ^ 20 → m < 10 ^ 20 → frameName n ≡ frameName m → n ≡ m
-unfolding frameName number
-name-different n m hn hm e =
-    let q : decimal n ++ (33 ∷ []) ≡ decimal m ++ (33 ∷ []) = ap (drop 13) e in
-    let k : n * 10 + (33 - 48) ≡ m * 10 + (33 - 48) = sym (digits-number 20 n [] (33 ∷ []) hn) ∙ (ap (number 0) q ∙ digits-number 20 m [] (33 ∷ []) hm) in
-    omega arith
+name-different n m hn hm e = frame-number-unique (frame-name n hn) (rw e (frame-name m hm))
 
 -- ---- frame numbers have at most 18 digits
-
-seq-bound : (ls : List Loop) (n scene t z : ℕ) → Below (index scene t z) ls → seqFrom n ls scene t z < suc n * frames ls
-unfolding seqFrom frames
-seq-bound [] n scene t z b = omega arith
-seq-bound (l ∷ ls) n scene t z (one h b) =
-    let i = indexOf (l .axis) scene t z in
-    let k = seq-bound ls (n * l .count + i) scene t z b in
-    let j : suc (n * l .count + i) * frames ls ≤ suc n * l .count * frames ls = mul-le-mul-right (frames ls) (omega arith) in
-    let m : suc n * l .count * frames ls ≡ suc n * (l .count * frames ls) = mul-assoc (suc n) (l .count) (frames ls) in
-    omega arith
 
 frames-bound : (ls : List Loop) → Counted ls → frames ls ≤ mostCount ^ length ls
 unfolding frames
@@ -63,14 +101,18 @@ frames-bound (l ∷ ls) (cons h k c) =
     let r : l .count * frames ls ≤ mostCount * mostCount ^ length ls = mul-le-mul k (frames-bound ls c) in
     rw (pow-succ') r
 
-seq-digits : (s : List ℕ) (u : Summary) (scene t z : ℕ) → Sound s u → Within (loopsOf u) scene t z → seqIndex (loopsOf u) scene t z < 10 ^ 20
-unfolding seqIndex
-seq-digits s u scene t z g w =
+pub frames-digits : (s : List ℕ) (u : Summary) → Sound s u → frames (loopsOf u) < 10 ^ 20
+frames-digits s u g =
     let ls = loopsOf u in
-    let b = seq-bound ls 0 scene t z (within-below ls scene t z (g .loops-distinct) w) in
     let l : length ls ≤ 3 = let m = g .loops-most in rw length-take (omega arith) in
     let f : frames ls ≤ mostCount ^ length ls = frames-bound ls (g .loops-counted) in
     let p : mostCount ^ length ls ≤ mostCount ^ 3 = pow-le-pow-right (omega arith) l in
+    omega arith
+
+pub seq-digits : (s : List ℕ) (u : Summary) (scene t z : ℕ) → Sound s u → Within (loopsOf u) scene t z → seqIndex (loopsOf u) scene t z < 10 ^ 20
+seq-digits s u scene t z g w =
+    let b = seq-below (loopsOf u) scene t z (g .loops-distinct) w in
+    let f = frames-digits s u g in
     omega arith
 
 -- Under a summary that passes the test 20, different triples in range have frames of different names.

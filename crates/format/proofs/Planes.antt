@@ -1,226 +1,179 @@
--- What a plane call that gives 0 has written, and when it gives 0. Assumes nothing.
-use Prim.Native.Nat.{ℕ, zero, suc, _+_, _-_, _*_, _/_, _%_, _≤_, _<_}
-use mathlib.Core.Path.{_≡_, refl, sym, ap, ap₂, _∙_}
+-- A plane call's number is the first of its refusals in order, and what an accepted one has written. Assumes nothing.
+use Prim.Native.Nat.{ℕ, zero, suc, _+_, _-_, _*_, _/_, _%_, _^_, _≤_, _<_}
+use mathlib.Core.Path.{_≡_, refl, sym, _∙_}
 use mathlib.Core.Logic.{_↔_}
-use mathlib.Core.Bool.{Bool, true, false, cond, not, _||_, _&&_}
-use mathlib.Core.Option.{Option, none, some}
-use mathlib.Core.List.{List, [], _∷_, _++_}
-use native.Mathlib.Nat.{suc-mul, mul-le-mul-right, mul-le-mul-left, div-lt-iff-lt-mul, mod-lt, mul-add-div-right, mul-add-mod-self-right, mod-eq-of-lt, div-eq-of-lt, add-zero, mul-assoc, mul-comm, zero-mul}
+use mathlib.Core.Bool.{false, _||_, true≢false}
+use mathlib.Core.List.{List, [], _∷_}
+use native.Mathlib.Nat.{suc-mul, mul-le-mul-right, div-lt-iff-lt-mul, mod-lt, mul-add-div-right, mul-add-mod-self-right, mod-eq-of-lt, div-eq-of-lt, add-zero, zero-mul}
 use native.Mathlib.Omega.{arith}
-use lib.Dec.{ltb, leb, eqb, lit<}
-use lib.ListN.{length, getD, take, drop, length-append, length-drop, List·getD-append}
-use lib.Seq.{getD-drop, getD-take, getD-append-add, length-take-le}
-use borrow.Author.Tests.{ltb-false, le-ltb, leb-false, lt-leb, eqb-true, eqb-false, eq-eqb, ne-eqb, not-false}
+use lib.Dec.{ltb, leb}
+use lib.ListN.{length, getD, length-append, List·getD-append}
+use lib.Seq.{getD-append-add}
+use borrow.Author.Tests.{ltb-false, le-ltb, leb-false, lt-leb}
 use Rattle.format.proofs.Tests.{or-left, or-right, or-none}
-use Rattle.format.proofs.Answers.{refused≢given, refuseIf-given, andThen-given, orRefuse-given, given-inj, not-refused, go-on, found, Numbered, NotZero, refusal, answer, refuseIf-numbered, andThen-numbered, orRefuse-numbered}
-use Rattle.format.proofs.Chunks.{chunk-read, read-chunk, chunk-numbered}
-use Rattle.format.proofs.Maps.{map-read, read-map, map-numbered, listed-read, read-listed}
-use Rattle.format.proofs.Frames.{good-loops, loops-good}
+use Rattle.format.proofs.Bytes.{part-length, part-at}
+use Rattle.format.proofs.Buffers.{over-at, over-later, over-length}
+use Rattle.format.proofs.Answers.{refuseIf-given, andThen-given, orRefuse-given, given-inj, found, orRefuse-numbered}
+use Rattle.format.proofs.Orders.{Decides, gives, decides-if, decides-less, decides-one, decides-then, decides-first, decides-given, nonzero, accepted-iff}
+use Rattle.format.proofs.Chunks.{chunk-read, chunk-numbered}
+use Rattle.format.proofs.Maps.{map-read, read-map, map-numbered}
+use Rattle.format.proofs.Summaries.{sound-read, unsound}
+use Rattle.format.proofs.Names.{seq-digits}
+use Rattle.format.proofs.Entries.{frame-entry, entry-frame, frame-chunk}
+use Rattle.format.specs.Answer.{Answer, refused, given, refuseIf, andThen, orRefuse, numberOf}
 use Rattle.format.specs.Bytes.{part, most64, over}
-use Rattle.format.specs.Answer.{Answer, refused, given, refuseIf, andThen, orRefuse}
-use Rattle.format.specs.declared.Range.{Range}
-use Rattle.format.specs.Chunks.{chunkData}
+use Rattle.format.specs.Refusals as why
+use Rattle.format.specs.Chunks.{chunkData, dataIn}
 use Rattle.format.specs.Map.{MapEntry, mapEntries, offsetOf}
-use Rattle.format.specs.declared.Attributes.{Attributes}
-use Rattle.format.specs.Attributes.{sampleBytes, planeBytes, badShape, badBits}
-use Rattle.format.specs.Loops.{mostCount}
-use Rattle.format.specs.Summary.{shapeOf, loopsOf, badLoops, badSummary, mapOf}
+use Rattle.format.specs.Attributes.{sampleBytes, planeBytes}
+use Rattle.format.specs.Summary.{shapeOf, loopsOf, badSummary, mapOf}
 use Rattle.format.specs.Frames.{countOf, seqIndex, frameName, samplePlace}
-use Rattle.format.specs.Calls.Plane.{samples, frameOf, planeBy, planeCall, Outcome, badIndex, badFrame, frameFor, planeSamples}
-use Rattle.format.specs.Calls.Plane.{ceiling}
-use Rattle.format.specs.Grammar.Attributes.{Bits, eight, sixteen, thirtytwo, Shape}
-use Rattle.format.specs.Grammar.Plane.{Sound, Within, Frame, Accepted, Copied}
-use Rattle.format.specs.Grammar.Chunks.{Chunk}
+use Rattle.format.specs.Calls.Plane.{samples, badIndex, badFrame, frameOf, frameFor, planeSamples, planeBy, planeCall}
+use Rattle.format.specs.Calls.Plane.{ceiling as most}
+use Rattle.format.specs.Grammar.Lists.{In, here, behind}
+use Rattle.format.specs.Grammar.Attributes.{Shape}
 use Rattle.format.specs.Grammar.Map.{MapOf}
+use Rattle.format.specs.Refused.Order.{First}
+use Rattle.format.specs.Refused.Summary.{Sound}
+use Rattle.format.specs.Refused.Plane.{Within, FrameEntry, FrameData, FrameLong, PlaneRefusal, summary, index, ceiling, map, no-frame, chunk, frame-short, buffer, planeOrder, Copied}
+use Rattle.format.specs.declared.Range.{Range}
+use Rattle.format.specs.declared.Attributes.{Attributes}
 use Rattle.format.specs.declared.Axis.the-variants.{T, Z, P}
 use Rattle.format.specs.declared.Summary.{Summary}
 
--- ---- the test 20
+-- ---- 21 and 24
 
-pub bits-good : (b : ℕ) → badBits b ≡ false → Bits b
-unfolding badBits
-bits-good b e = go (eqb b 8) refl (eqb b 16) refl (eqb b 32) refl e
-  where
-    go : (p : Bool) → eqb b 8 ≡ p → (q : Bool) → eqb b 16 ≡ q → (r : Bool) → eqb b 32 ≡ r → not (p || q || r) ≡ false → Bits b
-    go true h q hq r hr e = rw (eqb-true b 8 h) eight
-    go false h true hq r hr e = rw (eqb-true b 16 hq) sixteen
-    go false h false hq true hr e = rw (eqb-true b 32 hr) thirtytwo
-    go false h false hq false hr e = absurd (mathlib.Core.Bool.true≢false e)
+index-read : (u : Summary) (scene t c z : ℕ) → badIndex u scene t c z ≡ false → Within (loopsOf u) scene t z × (c < u .components)
+unfolding badIndex
+index-read u scene t c z e =
+    let ls = loopsOf u in
+    let t₁ = leb (countOf P ls) scene in
+    let t₂ = leb (countOf T ls) t in
+    let t₃ = leb (u .components) c in
+    let t₄ = leb (countOf Z ls) z in
+    let e₃ = or-left (t₁ || t₂ || t₃) t₄ e in
+    let e₂ = or-left (t₁ || t₂) t₃ e₃ in (
+      record {
+        scene-below = leb-false _ _ (or-left t₁ t₂ e₂);
+        t-below = leb-false _ _ (or-right t₁ t₂ e₂);
+        z-below = leb-false _ _ (or-right (t₁ || t₂ || t₃) t₄ e);
+      },
+      leb-false _ _ (or-right (t₁ || t₂) t₃ e₃),
+    )
 
-pub good-bits : (b : ℕ) → Bits b → badBits b ≡ false
-unfolding badBits
-good-bits b eight = refl
-good-bits b sixteen = refl
-good-bits b thirtytwo = refl
+read-index : (u : Summary) (scene t c z : ℕ) → Within (loopsOf u) scene t z → c < u .components → badIndex u scene t c z ≡ false
+unfolding badIndex
+read-index u scene t c z w h =
+    or-none _ _ (or-none _ _ (or-none _ _ (lt-leb _ _ (w .scene-below)) (lt-leb _ _ (w .t-below))) (lt-leb _ _ h)) (lt-leb _ _ (w .z-below))
 
-pub shape-good : (a : Attributes) → badShape a ≡ false → Shape a
-unfolding badShape
-shape-good a e =
-    let row = a .width * a .components * sampleBytes (a .bits) in
-    let t₁ = eqb (a .width) 0 in
-    let t₂ = eqb (a .height) 0 in
-    let t₃ = eqb (a .components) 0 in
-    let t₄ = ltb 1024 (a .components) in
-    let t₅ = ltb most64 row in
-    let t₆ = ltb (a .stride) row in
-    let e₅ = or-left (t₁ || t₂ || t₃ || t₄ || t₅) t₆ e in
-    let e₄ = or-left (t₁ || t₂ || t₃ || t₄) t₅ e₅ in
-    let e₃ = or-left (t₁ || t₂ || t₃) t₄ e₄ in
-    let e₂ = or-left (t₁ || t₂) t₃ e₃ in
-    let n₁ : (a .width ≡ 0 → ⊥) = eqb-false _ _ (or-left t₁ t₂ e₂) in
-    let n₂ : (a .height ≡ 0 → ⊥) = eqb-false _ _ (or-right t₁ t₂ e₂) in
-    let n₃ : (a .components ≡ 0 → ⊥) = eqb-false _ _ (or-right (t₁ || t₂) t₃ e₃) in
+long-read : (u : Summary) (r : Range) → badFrame u (r .len) ≡ false → FrameLong u r
+unfolding badFrame
+long-read u r e =
+    let t₁ = ltb (r .len) 8 in
+    let t₂ = ltb most64 (u .stride * u .height) in
+    let t₃ = ltb (r .len - 8) (u .stride * u .height) in
+    let e₂ = or-left (t₁ || t₂) t₃ e in
     record {
-      width-some = omega arith;
-      height-some = omega arith;
-      components-some = omega arith;
-      components-most = ltb-false _ _ (or-right (t₁ || t₂ || t₃) t₄ e₄);
-      row-most = ltb-false _ _ (or-right (t₁ || t₂ || t₃ || t₄) t₅ e₅);
-      row-fits = ltb-false _ _ (or-right (t₁ || t₂ || t₃ || t₄ || t₅) t₆ e);
+      prefix = ltb-false _ _ (or-left t₁ t₂ e₂);
+      product = ltb-false _ _ (or-right t₁ t₂ e₂);
+      rows = ltb-false _ _ (or-right (t₁ || t₂) t₃ e);
     }
 
-pub good-shape : (a : Attributes) → Shape a → badShape a ≡ false
-unfolding badShape
-good-shape a s =
-    let n₁ = s .width-some in
-    let n₂ = s .height-some in
-    let n₃ = s .components-some in
-    or-none _ _ (or-none _ _ (or-none _ _ (or-none _ _ (or-none _ _ (ne-eqb (a .width) 0 (λ q. omega arith)) (ne-eqb (a .height) 0 (λ q. omega arith)))
-    (ne-eqb (a .components) 0 (λ q. omega arith))) (le-ltb _ _ (s .components-most))) (le-ltb _ _ (s .row-most))) (le-ltb _ _ (s .row-fits))
+read-long : (u : Summary) (r : Range) → FrameLong u r → badFrame u (r .len) ≡ false
+unfolding badFrame
+read-long u r l = or-none _ _ (or-none _ _ (le-ltb _ _ (l .prefix)) (le-ltb _ _ (l .product))) (le-ltb _ _ (l .rows))
 
-sound-read : (s : List ℕ) (u : Summary) → badSummary s u ≡ false → Sound s u
-unfolding badSummary
-sound-read s u e =
-    let a = shapeOf u in
-    let t₁ = badBits (u .bits) in
-    let t₂ = badShape a in
-    let t₃ = ltb most64 (planeBytes a) in
-    let t₄ = ltb 3 (u .depth) in
-    let t₅ = badLoops (loopsOf u) in
-    let t₆ = ltb (length s) (u .map .start + u .map .len) in
-    let e₅ = or-left (t₁ || t₂ || t₃ || t₄ || t₅) t₆ e in
-    let e₄ = or-left (t₁ || t₂ || t₃ || t₄) t₅ e₅ in
-    let e₃ = or-left (t₁ || t₂ || t₃) t₄ e₄ in
-    let e₂ = or-left (t₁ || t₂) t₃ e₃ in
-    let ls = good-loops (loopsOf u) (or-right (t₁ || t₂ || t₃ || t₄) t₅ e₅) in
-    record {
-      bits = bits-good (u .bits) (or-left t₁ t₂ e₂);
-      shape = shape-good a (or-right t₁ t₂ e₂);
-      plane-most = ltb-false _ _ (or-right (t₁ || t₂) t₃ e₃);
-      loops-most = ltb-false _ _ (or-right (t₁ || t₂ || t₃) t₄ e₄);
-      loops-counted = ls .0;
-      loops-distinct = ls .1;
-      map-within = ltb-false _ _ (or-right (t₁ || t₂ || t₃ || t₄ || t₅) t₆ e);
-    }
+-- ---- the number
 
-read-sound : (s : List ℕ) (u : Summary) → Sound s u → badSummary s u ≡ false
-unfolding badSummary
-read-sound s u g =
-    or-none _ _ (or-none _ _ (or-none _ _ (or-none _ _ (or-none _ _ (good-bits (u .bits) (g .bits)) (good-shape (shapeOf u) (g .shape)))
-    (le-ltb _ _ (g .plane-most))) (le-ltb _ _ (g .loops-most))) (loops-good (loopsOf u) (g .loops-counted) (g .loops-distinct))) (le-ltb _ _ (g .map-within))
+module _ (s : List ℕ) (u : Summary) (scene t c z : ℕ) (buf : List ℕ) where
+  abbrev R : ℕ → Type 0
+  R = PlaneRefusal s u scene t c z buf
 
--- ---- the frame
+  abbrev seq : ℕ
+  seq = seqIndex (loopsOf u) scene t z
 
-module _ (s : List ℕ) (u : Summary) (scene t c z : ℕ) where
-  frame-read : (r : Range) → frameOf s u scene t c z ≡ given r → (es : List MapEntry) × (o : ℕ) × Frame s u scene t c z es o r
-  unfolding frameOf badIndex badFrame
-  frame-read r e =
-      let a = shapeOf u in
-      let ls = loopsOf u in
-      let m = mapOf s u in
-      let t₁ = leb (countOf P ls) scene in
-      let t₂ = leb (countOf T ls) t in
-      let t₃ = leb (a .components) c in
-      let t₄ = leb (countOf Z ls) z in
-      let (f₁, e₁) = refuseIf-given (badSummary s u) 20 _ e in
-      let (f₂, e₂) = refuseIf-given (t₁ || t₂ || t₃ || t₄) 21 _ e₁ in
-      let (f₃, e₃) = refuseIf-given (ltb ceiling (planeBytes a)) 22 _ e₂ in
-      let (es, f₄, e₄) = andThen-given (mapEntries m) _ e₃ in
-      let (o, f₅, e₅) = andThen-given (orRefuse (offsetOf m (frameName (seqIndex ls scene t z)) es) 23) _ e₄ in
-      let (q, f₆, e₆) = andThen-given (chunkData [] s o) _ e₅ in
-      let t₅ = ltb (q .len) 8 in
-      let t₆ = ltb most64 (a .stride * a .height) in
-      let t₇ = ltb (q .len - 8) (a .stride * a .height) in
-      let (f₇, e₇) = refuseIf-given (t₅ || t₆ || t₇) 24 (given q) e₆ in
-      let same : q ≡ r = given-inj e₇ in
-      let g₇ = or-left (t₅ || t₆) t₇ f₇ in
-      let h₇ : 8 ≤ q .len = ltb-false _ _ (or-left t₅ t₆ g₇) in
-      let h₈ : a .stride * a .height ≤ q .len - 8 = ltb-false _ _ (or-right (t₅ || t₆) t₇ f₇) in
-      let g₃ = or-left (t₁ || t₂ || t₃) t₄ f₂ in
-      let g₂ = or-left (t₁ || t₂) t₃ g₃ in (
-        es,
-        o,
-        record {
-          not-20 = sound-read s u f₁;
-          not-21 =
-              record {
-                scene-below = leb-false _ _ (or-left t₁ t₂ g₂);
-                t-below = leb-false _ _ (or-right t₁ t₂ g₂);
-                z-below = leb-false _ _ (or-right (t₁ || t₂ || t₃) t₄ f₂);
-              };
-          not-21-component = leb-false _ _ (or-right (t₁ || t₂) t₃ g₃);
-          not-22 = ltb-false _ _ f₃;
-          not-5 = map-read m es f₄;
-          not-23 = listed-read m _ es o (orRefuse-given _ 23 f₅);
-          not-4 = chunk-read [] s o r (rw same at f₆);
-          not-24 = rw same at h₇;
-          not-24-product = ltb-false _ _ (or-right t₅ t₆ g₇);
-          not-24-rows = rw same at h₈;
-        },
-      )
+  -- what each refusal says
+  says-summary : R why.summary → Sound s u → ⊥
+  says-summary (summary f) = f
 
-  read-frame : (es : List MapEntry) (o : ℕ) (r : Range) → Frame s u scene t c z es o r → frameOf s u scene t c z ≡ given r
-  unfolding frameOf badIndex badFrame
-  read-frame es o r f =
-      let w = f .not-21 in
-      not-refused (badSummary s u) 20 _ _ (read-sound s u (f .not-20))
-      (not-refused _ 21 _ _ (or-none _ _ (or-none _ _ (or-none _ _ (lt-leb _ _ (w .scene-below)) (lt-leb _ _ (w .t-below))) (lt-leb _ _ (f .not-21-component))) (lt-leb _ _ (w .z-below)))
-      (not-refused _ 22 _ _ (le-ltb _ _ (f .not-22))
-      (go-on (mapEntries (mapOf s u)) _ es (read-map (mapOf s u) es (f .not-5))
-      (go-on (orRefuse (offsetOf (mapOf s u) (frameName (seqIndex (loopsOf u) scene t z)) es) 23) _ o (found _ 23 o (read-listed _ _ es o (f .not-23)))
-      (go-on (chunkData [] s o) _ r (read-chunk [] s o r (f .not-4))
-      (not-refused _ 24 _ _ (or-none _ _ (or-none _ _ (le-ltb _ _ (f .not-24)) (le-ltb _ _ (f .not-24-product))) (le-ltb _ _ (f .not-24-rows))) refl))))))
+  says-index : R why.index → Within (loopsOf u) scene t z → c < u .components → ⊥
+  says-index (index f) = f
 
-  accepted-frame : (buf : List ℕ) (x : Accepted s u scene t c z buf) → frameFor s u scene t c z (length buf) ≡ given (x .place)
-  unfolding frameFor
-  accepted-frame buf x =
-      go-on (frameOf s u scene t c z) _ (x .place) (read-frame (x .map-entries) (x .offset) (x .place) (x .frame))
-      (not-refused _ 25 _ _ (le-ltb _ _ (x .not-25)) refl)
+  says-ceiling : R why.ceiling → most < planeBytes (shapeOf u)
+  says-ceiling (ceiling h) = h
 
-  frame-numbered : Numbered NotZero (frameOf s u scene t c z)
-  unfolding frameOf badIndex badFrame
-  frame-numbered =
-      let a = shapeOf u in
-      let ls = loopsOf u in
-      let m = mapOf s u in
-      refuseIf-numbered (badSummary s u) 20 _ (lit< tt)
-      (refuseIf-numbered (badIndex u scene t c z) 21 _ (lit< tt)
-      (refuseIf-numbered (ltb ceiling (planeBytes a)) 22 _ (lit< tt)
-      (andThen-numbered (mapEntries m) _ (map-numbered m) λ es.
-      andThen-numbered (orRefuse (offsetOf m (frameName (seqIndex ls scene t z)) es) 23) _ (orRefuse-numbered _ 23 (lit< tt)) λ o.
-      andThen-numbered (chunkData [] s o) _ (chunk-numbered [] s o NotZero (lit< tt)) λ r.
-      refuseIf-numbered (badFrame u (r .len)) 24 _ (lit< tt) (answer {a = r}))))
+  says-map : R why.map → (es : List MapEntry) → MapOf (mapOf s u) es → ⊥
+  says-map (map f) = f
 
-  -- The plane call gives 0 exactly when none of its refusals holds.
-  pub plane-accepted : (buf : List ℕ) → (planeCall s u scene t c z buf .number ≡ 0) ↔ Accepted s u scene t c z buf
-  unfolding planeCall frameFor
-  plane-accepted buf = (there (frameFor s u scene t c z (length buf)) refl buffer-numbered, back)
-    where
-      buffer-numbered : Numbered NotZero (frameFor s u scene t c z (length buf))
-      buffer-numbered =
-          andThen-numbered (frameOf s u scene t c z) _ frame-numbered λ r.
-          refuseIf-numbered (ltb (length buf) (planeBytes (shapeOf u))) 25 _ (lit< tt) (answer {a = r})
+  says-frame : R why.noFrame → (o : ℕ) → FrameEntry s u seq o → ⊥
+  says-frame (no-frame f) = f
 
-      there : (x : Answer Range) → frameFor s u scene t c z (length buf) ≡ x → Numbered NotZero x → planeBy s u c buf x .number ≡ 0 → Accepted s u scene t c z buf
-      there (refused n) q (refusal h) e = absurd (omega arith)
-      there (given r) q h e =
-          let (p, f₁, e₁) = andThen-given (frameOf s u scene t c z) _ q in
-          let (f₂, e₂) = refuseIf-given (ltb (length buf) (planeBytes (shapeOf u))) 25 (given p) e₁ in
-          let (es, o, f) = frame-read p f₁ in
-          record { map-entries = es; offset = o; place = p; frame = f; not-25 = ltb-false _ _ f₂ }
+  says-chunk : R why.chunk → (r : Range) → FrameData s u seq r → ⊥
+  says-chunk (chunk f) = f
 
-      back : Accepted s u scene t c z buf → planeBy s u c buf (frameFor s u scene t c z (length buf)) .number ≡ 0
-      back x = rw (accepted-frame buf x) refl
+  says-short : R why.frameShort → (r : Range) → FrameData s u seq r → FrameLong u r → ⊥
+  says-short (frame-short f) = f
+
+  says-buffer : R why.buffer → length buf < planeBytes (shapeOf u)
+  says-buffer (buffer h) = h
+
+  -- the frame's entry, its chunk and the chunk's length
+  entry-decides : (es : List MapEntry) → mapEntries (mapOf s u) ≡ given es → seq < 10 ^ 20
+      → Decides R (why.noFrame ∷ why.chunk ∷ why.frameShort ∷ [])
+      (andThen (orRefuse (offsetOf (mapOf s u) (frameName seq) es) why.noFrame) λ o.
+      andThen (chunkData [] s o) λ r. refuseIf (badFrame u (r .len)) why.frameShort (given r))
+  entry-decides es e l =
+      decides-then {ns = why.noFrame ∷ []} (orRefuse (offsetOf (mapOf s u) (frameName seq) es) why.noFrame) _
+      (decides-one why.noFrame _ (orRefuse-numbered _ why.noFrame refl)
+      (λ f. no-frame λ o x. f o (found _ why.noFrame o (entry-frame s u es e seq l o x)))
+      (λ o q p. says-frame p o (frame-entry s u es e seq l o (orRefuse-given _ why.noFrame q)))) λ o q₁.
+      let e₁ = orRefuse-given (offsetOf (mapOf s u) (frameName seq) es) why.noFrame q₁ in
+      let data-at : (r : Range) → chunkData [] s o ≡ given r → FrameData s u seq r =
+      λ r q. record { offset = o; entry = frame-entry s u es e seq l o e₁; chunk = chunk-read [] s o r q } in
+      decides-then {ns = why.chunk ∷ []} (chunkData [] s o) _
+      (decides-one why.chunk _ (chunk-numbered [] s o (λ m. m ≡ why.chunk) refl) (λ f. chunk λ r x. f r (frame-chunk s u es e seq l o r e₁ x))
+      (λ r q p. says-chunk p r (data-at r q))) λ r q₂.
+      decides-if (badFrame u (r .len)) why.frameShort _
+      (λ q. frame-short λ r′ x y. let k : r′ ≡ r = given-inj (sym (frame-chunk s u es e seq l o r′ e₁ x) ∙ q₂) in true≢false (sym q ∙ read-long u r (rw k at y)))
+      (λ q p. says-short p r (data-at r q₂) (long-read u r q)) λ q₃. gives
+
+  plane-decides : Decides R planeOrder (frameFor s u scene t c z (length buf))
+  unfolding frameFor frameOf
+  plane-decides =
+      decides-then {ns = why.summary ∷ why.index ∷ why.ceiling ∷ why.map ∷ why.noFrame ∷ why.chunk ∷ why.frameShort ∷ []} (frameOf s u scene t c z) _
+      (decides-if (badSummary s u) why.summary _ (λ q. summary (unsound s u q)) (λ q p. says-summary p (sound-read s u q)) λ q₁.
+      decides-if (badIndex u scene t c z) why.index _ (λ q. index λ w h. true≢false (sym q ∙ read-index u scene t c z w h))
+      (λ q p. let (w, h) = index-read u scene t c z q in says-index p w h) λ q₂.
+      decides-less most (planeBytes (shapeOf u)) why.ceiling _ ceiling says-ceiling
+      (decides-then {ns = why.map ∷ []} (mapEntries (mapOf s u)) _
+      (decides-one why.map _ (map-numbered (mapOf s u) (λ m. m ≡ why.map) refl) (λ f. map λ es x. f es (read-map _ es x))
+      (λ es q p. says-map p es (map-read _ es q))) λ es e.
+      entry-decides es e (seq-digits s u scene t z (sound-read s u q₁) (index-read u scene t c z q₂ .0))))
+      λ r e. decides-less (length buf) (planeBytes (shapeOf u)) why.buffer _ buffer says-buffer gives
+
+  by-number : (x : Answer Range) → planeBy s u c buf x .number ≡ numberOf x
+  unfolding planeBy numberOf
+  by-number (refused n) = refl
+  by-number (given r) = refl
+
+  -- The plane call's number is the first of its refusals in order.
+  pub plane-number : First R planeOrder (planeCall s u scene t c z buf .number)
+  unfolding planeCall
+  plane-number = rw (by-number (frameFor s u scene t c z (length buf))) (decides-first plane-decides)
+
+  in-order : (k : ℕ) → R k → In k planeOrder
+  in-order k (summary f) = here
+  in-order k (index f) = behind here
+  in-order k (ceiling f) = behind (behind here)
+  in-order k (map f) = behind (behind (behind here))
+  in-order k (no-frame f) = behind (behind (behind (behind here)))
+  in-order k (chunk f) = behind (behind (behind (behind (behind here))))
+  in-order k (frame-short f) = behind (behind (behind (behind (behind (behind here)))))
+  in-order k (buffer f) = behind (behind (behind (behind (behind (behind (behind here))))))
+
+  -- It is 0 exactly when none of them holds.
+  pub plane-accepted : (planeCall s u scene t c z buf .number ≡ 0) ↔ ((k : ℕ) → PlaneRefusal s u scene t c z buf k → ⊥)
+  plane-accepted = accepted-iff (nonzero planeOrder refl) in-order plane-number
 
 -- ---- the samples
 
@@ -230,14 +183,6 @@ module _ (s : List ℕ) (a : Attributes) (start c : ℕ) where
 
   abbrev place : ℕ → ℕ
   place j = samplePlace a start c (j / a .width) (j % a .width)
-
-  one-length : (i : ℕ) → i + size ≤ length s → length (part s i size) ≡ size
-  unfolding part
-  one-length i h = length-take-le size (drop i s) (simp length-drop (omega arith))
-
-  one-at : (i k : ℕ) → k < size → getD (part s i size) k 0 ≡ getD s (i + k) 0
-  unfolding part
-  one-at i k h = rw (getD-take, getD-drop) refl
 
   -- n samples from sample j on are whole
   Whole : ℕ → ℕ → Type 0
@@ -255,7 +200,7 @@ module _ (s : List ℕ) (a : Attributes) (start c : ℕ) where
   unfolding samples
   samples-length zero j h = sym (zero-mul size)
   samples-length (suc n) j h =
-      let e₁ = one-length (place j) (whole-first n j h) in
+      let e₁ = part-length s (place j) size (whole-first n j h) in
       let e₂ = samples-length n (suc j) (whole-rest n j h) in
       rw (length-append, e₁, e₂) (omega arith)
 
@@ -264,20 +209,20 @@ module _ (s : List ℕ) (a : Attributes) (start c : ℕ) where
   samples-at zero j i k h l m = absurd (omega arith)
   samples-at (suc n) j zero k h l m =
       let e : 0 * size + k ≡ k = omega arith in
-      let e₁ = one-length (place j) (whole-first n j h) in
+      let e₁ = part-length s (place j) size (whole-first n j h) in
       let l : k < length (part s (place j) size) = rw e₁ m in
-      rw (e, List·getD-append (part s (place j) size) (samples n s a start c (suc j)) 0 k l, add-zero) (one-at (place j) k m)
+      rw (e, List·getD-append (part s (place j) size) (samples n s a start c (suc j)) 0 k l, add-zero) (part-at s (place j) size k m)
   samples-at (suc n) j (suc i) k h l m =
       let x = part s (place j) size in
-      let e₁ : length x ≡ size = one-length (place j) (whole-first n j h) in
+      let e₁ : length x ≡ size = part-length s (place j) size (whole-first n j h) in
       let e : suc i * size + k ≡ length x + (i * size + k) = rw e₁ (omega arith) in
       let e₂ : suc j + i ≡ j + suc i = omega arith in
       rw (e, getD-append-add x (samples n s a start c (suc j)) (i * size + k) 0, ← e₂) (samples-at n (suc j) i k (whole-rest n j h) (omega arith) m)
 
--- a sample of the frame lies in the file
-sample-within : (s : List ℕ) (a : Attributes) (r : Range) (c y x : ℕ) → Shape a → r .start + r .len ≤ length s → 8 ≤ r .len → a .stride * a .height ≤ r .len - 8
-    → c < a .components → y < a .height → x < a .width → samplePlace a (r .start) c y x + sampleBytes (a .bits) ≤ length s
-sample-within s a r c y x g h₁ h₂ h₃ hc hy hx =
+-- a sample of the frame lies in its data
+sample-within : (a : Attributes) (len c y x : ℕ) → Shape a → 8 ≤ len → a .stride * a .height ≤ len - 8 → c < a .components → y < a .height → x < a .width
+    → samplePlace a 0 c y x + sampleBytes (a .bits) ≤ len
+sample-within a len c y x g h₂ h₃ hc hy hx =
     let size = sampleBytes (a .bits) in
     let k₁ : suc y * a .stride ≤ a .height * a .stride = mul-le-mul-right (a .stride) hy in
     let k₂ : suc x * a .components ≤ a .width * a .components = mul-le-mul-right (a .components) hx in
@@ -287,29 +232,51 @@ sample-within s a r c y x g h₁ h₂ h₃ hc hy hx =
     let k₆ : (x * a .components + c) * size + size ≤ a .width * a .components * size = rw suc-mul at k₄ in
     omega arith
 
-over-at : (xs buf : List ℕ) (i : ℕ) → i < length xs → getD (over xs buf) i 0 ≡ getD xs i 0
-unfolding over
-over-at xs buf i h = List·getD-append xs (drop (length xs) buf) 0 i h
-
-over-later : (xs buf : List ℕ) (i : ℕ) → length xs ≤ i → getD (over xs buf) i 0 ≡ getD buf i 0
-unfolding over
-over-later xs buf i h =
-    let e : i ≡ length xs + (i - length xs) = omega arith in
-    rw e (getD-append-add xs (drop (length xs) buf) (i - length xs) 0 ∙ getD-drop (length xs) buf (i - length xs) 0)
-
-over-length : (xs buf : List ℕ) → length xs ≤ length buf → length (over xs buf) ≡ length buf
-unfolding over
-over-length xs buf h = rw (length-append, length-drop) (omega arith)
+-- what an accepted call has found
+record Ready (s : List ℕ) (u : Summary) (scene t c z : ℕ) (buf : List ℕ) (r : Range) : Type 0 where
+  sound : Sound s u
+  component : c < u .components
+  frame : FrameData s u (seqIndex (loopsOf u) scene t z) r
+  long : FrameLong u r
+  room : planeBytes (shapeOf u) ≤ length buf
 
 module _ (s : List ℕ) (u : Summary) (scene t c z : ℕ) (buf : List ℕ) where
-  copied : (es : List MapEntry) (o : ℕ) (r : Range) → Frame s u scene t c z es o r → planeBytes (shapeOf u) ≤ length buf
-      → Copied s u c (r .start) buf (over (samples (u .width * u .height) s (shapeOf u) (r .start) c 0) buf)
+  ready : (r : Range) → frameFor s u scene t c z (length buf) ≡ given r → Ready s u scene t c z buf r
+  unfolding frameFor frameOf
+  ready r e =
+      let n = seqIndex (loopsOf u) scene t z in
+      let (r′, e₀, e₁) = andThen-given (frameOf s u scene t c z) _ e in
+      let (f₁, e₂) = refuseIf-given (ltb (length buf) (planeBytes (shapeOf u))) why.buffer (given r′) e₁ in
+      let k : r′ ≡ r = given-inj e₂ in
+      let (f₂, e₃) = refuseIf-given (badSummary s u) why.summary _ e₀ in
+      let (f₃, e₄) = refuseIf-given (badIndex u scene t c z) why.index _ e₃ in
+      let (f₄, e₅) = refuseIf-given (ltb most (planeBytes (shapeOf u))) why.ceiling _ e₄ in
+      let (es, f₅, e₆) = andThen-given (mapEntries (mapOf s u)) _ e₅ in
+      let (o, f₆, e₇) = andThen-given (orRefuse (offsetOf (mapOf s u) (frameName n) es) why.noFrame) _ e₆ in
+      let (q, f₇, e₈) = andThen-given (chunkData [] s o) _ e₇ in
+      let (f₈, e₉) = refuseIf-given (badFrame u (q .len)) why.frameShort (given q) e₈ in
+      let j : q ≡ r = given-inj e₉ ∙ k in
+      let g = sound-read s u f₂ in
+      let (w, h) = index-read u scene t c z f₃ in
+      record {
+        sound = g;
+        component = h;
+        frame = record {
+          offset = o;
+          entry = frame-entry s u es f₅ n (seq-digits s u scene t z g w) o (orRefuse-given _ why.noFrame f₆);
+          chunk = chunk-read [] s o r (rw j at f₇);
+        };
+        long = rw j at (long-read u q f₈);
+        room = ltb-false _ _ f₁;
+      }
+
+  copied : (r : Range) → Ready s u scene t c z buf r → Copied u c (dataIn s r) buf (over (samples (u .width * u .height) s (shapeOf u) (r .start) c 0) buf)
   unfolding Whole
-  copied es o r f room =
+  copied r f =
       record {
         sample = at-sample;
         later = λ i h. over-later all buf i (rw len h);
-        length-kept = over-length all buf (rw len room);
+        length-kept = over-length all buf (rw len (f .room));
       }
     where
       a : Attributes
@@ -319,22 +286,26 @@ module _ (s : List ℕ) (u : Summary) (scene t c z : ℕ) (buf : List ℕ) where
       all = samples (u .width * u .height) s (shapeOf u) (r .start) c 0
 
       some-width : 0 < u .width
-      some-width = f .not-20 .shape .width-some
+      some-width = f .sound .shape .width-some
 
-      within : r .start + r .len ≤ length s
-      within = let k = f .not-4 in omega (arith, k .data-within, k .data-start, k .data-len)
+      in-data : (y x : ℕ) → y < u .height → x < u .width → samplePlace a 0 c y x + sampleBytes (u .bits) ≤ r .len
+      in-data y x hy hx = sample-within a (r .len) c y x (f .sound .shape) (f .long .prefix) (f .long .rows) (f .component) hy hx
+
+      in-file : r .start + r .len ≤ length s
+      in-file = let k = f .frame .chunk in omega (arith, k .data-within, k .data-start, k .data-len)
 
       whole : (i : ℕ) → i < u .width * u .height → samplePlace a (r .start) c ((0 + i) / u .width) ((0 + i) % u .width) + sampleBytes (u .bits) ≤ length s
       whole i h =
           let h₂ : 0 + i < u .height * u .width = omega arith in
-          sample-within s a r c ((0 + i) / u .width) ((0 + i) % u .width) (f .not-20 .shape) within (f .not-24) (f .not-24-rows) (f .not-21-component)
-          (div-lt-iff-lt-mul some-width .1 h₂) (mod-lt (0 + i) some-width)
+          let k = in-data ((0 + i) / u .width) ((0 + i) % u .width) (div-lt-iff-lt-mul some-width .1 h₂) (mod-lt (0 + i) some-width) in
+          omega (arith, in-file)
 
       len : length all ≡ u .width * u .height * sampleBytes (u .bits)
       len = samples-length s a (r .start) c (u .width * u .height) 0 whole
 
       at-sample : (y x k : ℕ) → y < u .height → x < u .width → k < sampleBytes (u .bits)
-          → getD (over all buf) ((y * u .width + x) * sampleBytes (u .bits) + k) 0 ≡ getD s (samplePlace a (r .start) c y x + k) 0
+          → getD (over all buf) ((y * u .width + x) * sampleBytes (u .bits) + k) 0
+          ≡ getD (dataIn s r) (8 + y * u .stride + (x * u .components + c) * sampleBytes (u .bits) + k) 0
       at-sample y x k hy hx hk =
           let i = y * u .width + x in
           let size = sampleBytes (u .bits) in
@@ -345,12 +316,32 @@ module _ (s : List ℕ) (u : Summary) (scene t c z : ℕ) (buf : List ℕ) where
           let e₀ : 0 + i ≡ i = omega arith in
           let e₁ : i / u .width ≡ y = mul-add-div-right some-width y x ∙ rw (div-eq-of-lt hx) (add-zero y) in
           let e₂ : i % u .width ≡ x = mul-add-mod-self-right y (u .width) x ∙ mod-eq-of-lt hx in
-          over-at all buf (i * size + k) k₃ ∙ (samples-at s a (r .start) c (u .width * u .height) 0 i k whole below hk ∙ rw (e₀, e₁, e₂) refl)
+          let j = 8 + y * u .stride + (x * u .components + c) * size + k in
+          let k₄ = in-data y x hy hx in
+          let k₅ : j < r .len = omega arith in
+          let e₃ : r .start + j ≡ samplePlace a (r .start) c y x + k = omega arith in
+          let e₄ : getD s (samplePlace a (r .start) c ((0 + i) / u .width) ((0 + i) % u .width) + k) 0 ≡ getD s (r .start + j) 0 = rw (e₀, e₁, e₂, ← e₃) refl in
+          over-at all buf (i * size + k) k₃ ∙ (samples-at s a (r .start) c (u .width * u .height) 0 i k whole below hk ∙ (e₄ ∙ sym (part-at s (r .start) (r .len) j k₅)))
 
-  -- Where the plane call gives 0, every sample's bytes are the file's, and later bytes are as they were.
+  -- Where the plane call gives 0, every sample's bytes are those of its frame's chunk, and later bytes are as they were.
   pub plane-sample : planeCall s u scene t c z buf .number ≡ 0
-      → (x : Accepted s u scene t c z buf) × Copied s u c (x .place .start) buf (planeCall s u scene t c z buf .buffer)
-  unfolding planeCall planeSamples
+      → (r : Range) × FrameData s u (seqIndex (loopsOf u) scene t z) r × Copied u c (dataIn s r) buf (planeCall s u scene t c z buf .buffer)
+  unfolding planeCall planeBy planeSamples
   plane-sample e =
-      let x = plane-accepted s u scene t c z buf .0 e in
-      (x, rw (accepted-frame s u scene t c z buf x) (copied (x .map-entries) (x .offset) (x .place) (x .frame) (x .not-25)))
+      let x = frameFor s u scene t c z (length buf) in
+      let (r, q) = decides-given (nonzero planeOrder refl) (plane-decides s u scene t c z buf) (sym (by-number s u scene t c z buf x) ∙ e) in
+      by r q
+    where
+      by : (r : Range) → frameFor s u scene t c z (length buf) ≡ given r
+          → (r : Range) × FrameData s u (seqIndex (loopsOf u) scene t z) r
+          × Copied u c (dataIn s r) buf (planeBy s u c buf (frameFor s u scene t c z (length buf)) .buffer)
+      by r q = let f = ready r q in (r, f .frame, rw q (copied r f))
+
+  -- Where it does not, the buffer is as it was.
+  pub plane-refused : (planeCall s u scene t c z buf .number ≡ 0 → ⊥) → planeCall s u scene t c z buf .buffer ≡ buf
+  unfolding planeCall planeBy
+  plane-refused f = go (frameFor s u scene t c z (length buf)) f
+    where
+      go : (x : Answer Range) → (planeBy s u c buf x .number ≡ 0 → ⊥) → planeBy s u c buf x .buffer ≡ buf
+      go (refused n) f = refl
+      go (given r) f = absurd (f refl)

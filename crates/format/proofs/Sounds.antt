@@ -1,28 +1,18 @@
 -- A summary that a file is joined to passes the test 20. Assumes nothing.
-use Prim.Native.Nat.{ℕ, zero, suc, _+_, _-_, _*_, _≤_, _<_, max}
-use mathlib.Core.Path.{_≡_, refl, sym, ap, _∙_, subst}
-use mathlib.Core.Bool.{Bool, true, false, cond, not, _||_}
-use mathlib.Core.Option.{Option, none, some}
+use Prim.Native.Nat.{ℕ, suc, _≤_, _<_, max}
+use mathlib.Core.Path.{_≡_, sym, _∙_, subst}
 use mathlib.Core.List.{List, [], _∷_, _++_, map, reverse, reverseAux}
 use native.Mathlib.Omega.{arith}
-use lib.Dec.{eqb, ltb}
-use lib.IntN.{ℤ, pos, negsuc}
 use lib.ListN.{length, take, replicate}
 use lib.Seq.{take-take, take-append-seam}
-use borrow.Author.Tests.{ltb-false, eqb-false}
 use Rattle.format.proofs.Frames.{axis-number}
-use Rattle.format.specs.declared.Range.{Range}
 use Rattle.format.specs.declared.Attributes.{Attributes}
-use Rattle.format.specs.Values.{bind, fieldIn}
-use Rattle.format.specs.Numbers.{signed}
-use Rattle.format.specs.Bytes.{ascii}
-use Rattle.format.specs.Loops.{mostCount, Said, nothing, wrong, loop, said, saidBy, typed, counted, supported, pointCount, spectralCount, countField, loopParams, Built, axisNumber}
-use Rattle.format.specs.Summary.{loopsOf, shapeOf, noLoop, inThree, summaryOf}
-use Rattle.format.specs.declared.Calibration.{Calibration}
-use Rattle.format.specs.Grammar.Loops.{Free, Distinct, Counted, Appended, first, deeper, larger, dropped, levelsBelow, Walks, done, stops, spectral, appends, loopOf, LoopsOf}
+use Rattle.format.specs.Loops.{mostCount, Built, axisNumber}
+use Rattle.format.specs.Summary.{noLoop, inThree, summaryOf}
+use Rattle.format.specs.Grammar.Loops.{Distinct, Counted, Appended, first, deeper, larger, dropped, Walks, done, stops, spectral, appends, loopOf, LoopsOf}
 use Rattle.format.specs.Grammar.Loops.{nil, cons}
 use Rattle.format.specs.Grammar.File.{Joined}
-use Rattle.format.specs.Grammar.Plane.{Sound}
+use Rattle.format.specs.Refused.Summary.{Sound}
 use Rattle.format.specs.declared.Entry.{Entry}
 use Rattle.format.specs.declared.Axis.{Axis}
 use Rattle.format.specs.declared.Axis.the-variants.{T, Z, P}
@@ -30,39 +20,6 @@ use Rattle.format.specs.declared.Loop.{Loop}
 use Rattle.format.specs.declared.Summary.{Summary}
 
 -- ---- counts
-
-Ranged : Said → Type 0
-Ranged nothing = Unit {0}
-Ranged (wrong n) = Unit {0}
-Ranged (loop t c) = (0 < c) × (c ≤ mostCount)
-
-cond-ranged : (b : Bool) (x y : Said) → Ranged x → (b ≡ false → Ranged y) → Ranged (cond b x y)
-cond-ranged true x y p q = p
-cond-ranged false x y p q = q refl
-
-said-ranged : (s : List ℕ) (es : List Entry) (i : ℕ) → Ranged (said s es i)
-unfolding said saidBy typed counted Ranged
-said-ranged s es i = go (loopParams s es (fieldIn s es i (ascii "uLoopPars"))) (bind (fieldIn s es i (ascii "eType")) signed)
-  where
-    count : (t c : ℕ) → Ranged (counted t c)
-    count t c =
-        cond-ranged (ltb mostCount c) (wrong 16) _ tt λ q₁.
-        cond-ranged (eqb c 0) nothing _ tt λ q₂.
-        let n : (c ≡ 0 → ⊥) = eqb-false c 0 q₂ in
-        (omega arith, ltb-false mostCount c q₁)
-
-    go : (o : Option ℕ) (t : Option ℤ) → Ranged (saidBy s es i o t)
-    go none t = tt
-    go (some p) none = tt
-    go (some p) (some (negsuc t)) = tt
-    go (some p) (some (pos t)) =
-        cond-ranged (eqb t 0 || ltb 10 t) nothing _ tt λ q₁.
-        cond-ranged (not (supported t)) (wrong 15) _ tt λ q₂.
-        count t (cond (eqb t 2) (pointCount s es i p) (cond (eqb t 6) (spectralCount s es p) (countField s es p)))
-
-loop-range : (s : List ℕ) (es : List Entry) (i t c : ℕ) → said s es i ≡ loop t c → (0 < c) × (c ≤ mostCount)
-unfolding Ranged
-loop-range s es i t c e = subst Ranged e (said-ranged s es i)
 
 data InRange : List Built → Type 0 where
   no-more : InRange []
@@ -79,12 +36,10 @@ appended-range t c n bs bs′ h k (dropped l f) r = r
 
 walks-range : (s : List ℕ) (es : List Entry) (is : List ℕ) (n : ℕ) (bs bs′ : List Built) → Walks s es is n bs bs′ → InRange bs → InRange bs′
 walks-range s es is n bs bs′ done r = r
-walks-range s es is n bs bs′ (stops {is = js} e w) r = walks-range s es js n bs bs′ w r
-walks-range s es is n bs bs′ (spectral {i = i} {is = js} {bs₁ = cs} e k w) r =
-    walks-range s es js n cs bs′ w (walks-range s es (levelsBelow s es i) n bs cs k r)
-walks-range s es is n bs bs′ (appends {i = i} {t = t} {c = c} {is = js} {bs₁ = cs} {bs₂ = ds} e h a k w) r =
-    let (x, y) = loop-range s es i t c e in
-    walks-range s es js n ds bs′ w (walks-range s es (levelsBelow s es i) (suc n) cs ds k (appended-range t c n bs cs x y a r))
+walks-range s es is n bs bs′ (stops {is = js} x w) r = walks-range s es js n bs bs′ w r
+walks-range s es is n bs bs′ (spectral {is = js} {ks = ks} {bs₁ = cs} x b k w) r = walks-range s es js n cs bs′ w (walks-range s es ks n bs cs k r)
+walks-range s es is n bs bs′ (appends {t = t} {c = c} {is = js} {ks = ks} {bs₁ = cs} {bs₂ = ds} x h a b k w) r =
+    walks-range s es js n ds bs′ w (walks-range s es ks (suc n) cs ds k (appended-range t c n bs cs (x .count-some) (x .count-most) a r))
 
 reverse-range : (bs cs : List Built) → InRange bs → InRange cs → InRange (reverseAux bs cs)
 reverse-range [] cs r q = q

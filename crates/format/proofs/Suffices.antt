@@ -1,20 +1,20 @@
 -- A tree of n bytes has at most n / 2 entries. Assumes nothing.
-use Prim.Native.Nat.{ℕ, zero, suc, _+_, _-_, _*_, _/_, _≤_, _<_}
-use mathlib.Core.Path.{_≡_, refl, sym, ap, _∙_, subst}
+use Prim.Native.Nat.{ℕ, zero, suc, _+_, _-_, _*_, _/_, _≤_}
+use mathlib.Core.Path.{_≡_, refl, subst}
 use mathlib.Core.Bool.{Bool, true, false, cond, not, _||_, _&&_}
-use mathlib.Core.Option.{Option, none, some}
+use mathlib.Core.Option.{none, some}
 use mathlib.Core.List.{List, [], _∷_, _++_}
 use native.Mathlib.Omega.{arith}
 use lib.Dec.{eqb, ltb, leb}
 use lib.ListN.{length, getD, length-append, length-take}
-use borrow.Author.Tests.{ltb-true, ltb-false, leb-true, leb-false}
-use Rattle.format.proofs.Tests.{and-left, and-right}
+use borrow.Author.Tests.{ltb-false, leb-true}
+use Rattle.format.proofs.Tests.{and-right}
 use Rattle.format.proofs.Text.{length-units}
 use Rattle.format.proofs.Reading.{pick-by, stopIf-by}
 use Rattle.format.specs.Bytes.{le, part}
 use Rattle.format.specs.Text.{units}
 use Rattle.format.specs.declared.Range.{Range}
-use Rattle.format.specs.Trees.{Stop, at, fault, Read, ends, entered, pick, stopIf, follow, then, fixedValue, textUnits, textValue, bytesValue, levelEnd, Children, childrenOr9, levelValue, fixedLen, value, known, ChildrenAt, entryOf, recordAt, records, childrenAt, read, treeIn, mostItems, mostDepth, packedType}
+use Rattle.format.specs.Trees.{Stop, at, fault, Read, ends, entered, follow, then, fixedValue, textUnits, textValue, bytesValue, levelEnd, Children, childrenOr9, levelValue, fixedLen, value, known, ChildrenAt, entryOf, recordAt, records, childrenAt, read, treeIn, mostItems, mostDepth, packedType}
 use Rattle.format.specs.declared.Entry.{Entry}
 
 -- where a reading stops, and the level's end where it faults

@@ -1,9 +1,9 @@
 -- One file of 728 bytes that is joined to a summary, and its plane. Assumes nothing.
-use Prim.Native.Nat.{ℕ, _+_, _-_, _*_, _/_, _%_}
+use Prim.Native.Nat.{ℕ}
 use mathlib.Core.Path.{_≡_, refl}
-use mathlib.Core.List.{List, [], _∷_, _++_}
+use mathlib.Core.List.{List, [], _∷_}
 use lib.Ieee.{toSigned}
-use Rattle.format.specs.Answer.{Answer, given, refused, andThen, refuseIf, orRefuse}
+use Rattle.format.specs.Answer.{given, refused, andThen, refuseIf, orRefuse}
 use Rattle.format.specs.Bytes.{le, same, part}
 use Rattle.format.specs.Chunks.{chunkData}
 use Rattle.format.specs.Map.{mapEntries, offsetOf, endMark}
@@ -20,7 +20,6 @@ use Rattle.format.specs.Numbers.{zeroFloat, unsigned, signed, below32}
 use Rattle.format.specs.Calls.Plane.{planeCall}
 use Rattle.format.specs.Grammar.File.{Joined}
 use Rattle.format.specs.declared.Axis.the-variants.{T}
-use Rattle.format.specs.declared.Loop.{Loop}
 use Rattle.format.specs.declared.Summary.{Summary}
 use Rattle.format.proofs.Files.{opened-iff-joined}
 

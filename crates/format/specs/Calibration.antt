@@ -1,5 +1,5 @@
 -- "Calibration and channels": the pixel size and the z step.
-use Prim.Native.Nat.{ℕ, zero, suc, _+_}
+use Prim.Native.Nat.{ℕ, zero, suc}
 use mathlib.Core.Bool.{Bool, true, false, cond, _&&_}
 use mathlib.Core.Option.{Option, none, some}
 use mathlib.Core.List.{List, [], _∷_}
@@ -12,7 +12,7 @@ use Rattle.format.specs.Refusals as why
 use Rattle.format.specs.Map.{MapEntry}
 use Rattle.format.specs.Trees.{namedTree}
 use Rattle.format.specs.Values.{field, fieldIn, asLevel, bind}
-use Rattle.format.specs.Numbers.{unsigned, signed, float, narrow, magnitude, positive, finite, zeroFloat, oneFloat}
+use Rattle.format.specs.Numbers.{signed, float, narrow, magnitude, positive, finite, zeroFloat, oneFloat}
 use Rattle.format.specs.Loops.{loopParams, childLevels, countField}
 use Rattle.format.specs.declared.Entry.{Entry}
 use Rattle.format.specs.declared.Calibration.{Calibration}

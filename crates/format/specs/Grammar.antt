@@ -1,10 +1,14 @@
--- "The grammar": document 01's rules, with none of the definitions that compute a reading.
+-- "The grammar": document 01's rules, with none of the definitions that compute a reading. What is shared is what a sequence of bytes or a value says: numbers and
+-- texts (Bytes, Text), the leaf values and the readings of numbers (Values.leaf, Numbers), formulas of sizes, and how a summary is put together.
+pub mod Lists
 pub mod Chunks
 pub mod Map
 pub mod Trees
+pub mod Values
+pub mod Numbers
 pub mod Attributes
 pub mod Loops
 pub mod Calibration
+pub mod Frames
 pub mod File
 pub mod Table
-pub mod Plane

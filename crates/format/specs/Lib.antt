@@ -23,6 +23,11 @@ pub mod Channels
 -- "The calls": the summary that they share, and each call's answer from its arguments alone
 pub mod Summary
 pub mod Calls
+-- "The grammar": rules, with none of the definitions that compute a reading
 pub mod Grammar
+-- "Why a file is turned away", as propositions
+pub mod Refused
 -- "Both edges": the starred lines
 pub mod Edges
+-- the customer's first and third demand, as statements
+pub mod Demands

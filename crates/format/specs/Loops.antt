@@ -1,6 +1,6 @@
 -- "Loops": ImageMetadataLV!, level SLxExperiment, nesting 0.
 use Prim.Native.Nat.{ℕ, zero, suc, _+_, max}
-use mathlib.Core.Bool.{Bool, cond, not, _&&_, _||_, true, false}
+use mathlib.Core.Bool.{Bool, cond, not, _&&_, _||_, false}
 use mathlib.Core.Option.{Option, none, some}
 use mathlib.Core.List.{List, [], _∷_, _++_, reverse}
 use lib.ListN.{length, take}

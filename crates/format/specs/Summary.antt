@@ -1,7 +1,7 @@
 -- "The calls": the summary. "The summary keeps for each loop its axis and its count (at most three loops, in order), besides width, row bytes,
 -- height, components, bits per sample, map data position and length, calibration state, x and y in f32, z class and z in f32."
 use Prim.Native.Nat.{ℕ, _+_}
-use mathlib.Core.Bool.{Bool, true, false, _||_}
+use mathlib.Core.Bool.{Bool, false, _||_}
 use mathlib.Core.List.{List, [], _∷_, _++_}
 use lib.ListN.{length, take, replicate}
 use lib.Dec.{ltb, eqb}

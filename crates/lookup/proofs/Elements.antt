@@ -12,129 +12,77 @@ use lib.ListN.{length, getElem?, take, drop, length-append}
 use lib.Dec.{eqb}
 use borrow.Author.Tests.{eq-eqb, ne-eqb, eqb-true, eqb-false}
 use Rattle.format.proofs.Tests.{and-right}
-use Rattle.format.proofs.Values.{step, put-some, leaf-by}
+use Rattle.format.proofs.Lookups.{leaf-by}
+use Rattle.format.proofs.Puts.{step, put-some}
 use Rattle.format.specs.Bytes.{same}
 use Rattle.format.specs.Values.{Value, level, list, Slot, named, unnamed, putNamed, putUnnamed, put, nameOf, slotsOf, slotsFrom, collapse, elements, spread, valueAt, valueFrom, valueIf, leaf}
 use Rattle.format.specs.declared.Entry.{Entry}
 use Rattle.lookup.specs.Table.{firsts, Ordered, found}
-use Rattle.lookup.specs.Values.{onlyUnnamed, unnamedIn, elementsFrom, elementsOf, unnamedChild, kidsFrom, kids, headOf, listAt}
+use Rattle.lookup.specs.Values.{onlyUnnamed, unnamedIn, elementsFrom, elementsOf, unnamedChild, kids, headOf, listAt}
 use Rattle.lookup.specs.declared.Found.{Found}
 use Rattle.lookup.specs.declared.Found.the-variants.{At, Nothing}
 use Rattle.lookup.proofs.Rows.{slots-more, slots-start, getElem-firsts, child-after}
+use Rattle.lookup.proofs.Between.{nil-not, Picked, between-here, between-skip, between-end, between-none, between-lower, between-last, between-zero, between-short, between-split}
 use Rattle.lookup.proofs.Search.{is-at, is-nothing}
 use Rattle.lookup.proofs.Lists.{no-name, some-name, unnamed-more, collapse-is}
 
--- ---- kids, one entry at a time
+-- ---- unnamed children
 
-module _ (e : ℕ → Entry) (p : ℕ) where
-  pub kids-here : (i n : ℕ) → i < n → unnamedChild p (e i) ≡ true → kids e p i n ≡ i ∷ kids e p (i + 1) n
-  unfolding kids kidsFrom
-  kids-here i n l h = rw (let x : n - i ≡ suc (n - (i + 1)) = omega arith in x, h, add-one)
-
-  pub kids-skip : (i n : ℕ) → i < n → unnamedChild p (e i) ≡ false → kids e p i n ≡ kids e p (i + 1) n
-  unfolding kids kidsFrom
-  kids-skip i n l h = rw (let x : n - i ≡ suc (n - (i + 1)) = omega arith in x, h, add-one)
-
-  pub kids-end : (i n : ℕ) → n ≤ i → kids e p i n ≡ []
-  unfolding kids kidsFrom
-  kids-end i n l = rw (let x : n - i ≡ 0 = omega arith in x)
-
-  -- no child from i on
-  pub kids-none : (i n : ℕ) → i ≤ n → ((k : ℕ) → i ≤ k → k < n → e k .parent ≡ p → ⊥) → kids e p i n ≡ []
-  unfolding kids kidsFrom
-  kids-none i n l h = go i (n - i) (λ k a b. h k a (omega arith))
-    where
-      go : (i m : ℕ) → ((k : ℕ) → i ≤ k → k < i + m → e k .parent ≡ p → ⊥) → kidsFrom e p i m ≡ []
-      go i zero h = refl
-      go i (suc m) h = rw (ne-eqb _ _ (h i (omega arith) (omega arith))) (go (suc i) m (λ k a b. h k (omega arith) (omega arith)))
-
-  -- one entry more at the end
-  kids-last : (i n : ℕ) → kidsFrom e p i (suc n) ≡ kidsFrom e p i n ++ cond (unnamedChild p (e (i + n))) ((i + n) ∷ []) []
-  unfolding kidsFrom
-  kids-last i zero = rw add-zero refl
-  kids-last i (suc n) =
-      let x : i + suc n ≡ suc i + n = omega arith in
-      rw x (go (unnamedChild p (e i)) _ _ _ (kids-last (suc i) n))
-    where
-      go : (b : Bool) (ks ls ms : List ℕ) → ks ≡ ls ++ ms → cond b (i ∷ ks) ks ≡ cond b (i ∷ ls) ls ++ ms
-      go true ks ls ms h = ap (λ (l : List ℕ). i ∷ l) h
-      go false ks ls ms h = h
-
-pub child-yes : (p : ℕ) (e : Entry) → e .parent ≡ p → e .units ≡ 0 → unnamedChild p e ≡ true
+child-yes : (p : ℕ) (e : Entry) → e .parent ≡ p → e .units ≡ 0 → unnamedChild p e ≡ true
 child-yes p e h z = rw (eq-eqb _ _ h, eq-eqb _ _ z)
 
-pub child-other : (p : ℕ) (e : Entry) → (e .parent ≡ p → ⊥) → unnamedChild p e ≡ false
+child-other : (p : ℕ) (e : Entry) → (e .parent ≡ p → ⊥) → unnamedChild p e ≡ false
 child-other p e h = rw (ne-eqb _ _ h)
 
-pub child-named : (p : ℕ) (e : Entry) → (e .units ≡ 0 → ⊥) → unnamedChild p e ≡ false
+child-named : (p : ℕ) (e : Entry) → (e .units ≡ 0 → ⊥) → unnamedChild p e ≡ false
 child-named p e h = rw (ne-eqb _ _ h) (go (eqb (e .parent) p))
   where
     go : (b : Bool) → (b && false) ≡ false
     go true = refl
     go false = refl
 
--- the same, as the code has it: r is entry i
-module _ (e : ℕ → Entry) (p i n : ℕ) (r : Entry) (q : r ≡ e i) (l : i < n) where
-  pub kid-yes : r .parent ≡ p → r .units ≡ 0 → kids e p i n ≡ i ∷ kids e p (i + 1) n
-  kid-yes h z = kids-here e p i n l (rw (← q) (child-yes p r h z))
-
-  pub kid-other : (r .parent ≡ p → ⊥) → kids e p i n ≡ kids e p (i + 1) n
-  kid-other h = kids-skip e p i n l (rw (← q) (child-other p r h))
-
-  pub kid-named : (r .units ≡ 0 → ⊥) → kids e p i n ≡ kids e p (i + 1) n
-  kid-named h = kids-skip e p i n l (rw (← q) (child-named p r h))
-
--- k is a kid of p among the entries from i to m, and ys come after it
-pub record Kid (e : ℕ → Entry) (p i m k : ℕ) (ys : List ℕ) : Type 0 where
-  pub above : i ≤ k
-  pub below : k < m
-  pub child : unnamedChild p (e k) ≡ true
-  pub rest : ys ≡ kids e p (suc k) m
-
-nil-not : {A : Type 0} (xs : List ℕ) (k : ℕ) (ys : List ℕ) → [] ≡ xs ++ k ∷ ys → A
-nil-not [] k ys h = absurd (let z : _≡_ {A = ℕ} 0 1 = cc in omega arith)
-nil-not (x ∷ xs) k ys h = absurd (let z : _≡_ {A = ℕ} 0 1 = cc in omega arith)
+-- ---- kids, one entry at a time
 
 module _ (e : ℕ → Entry) (p : ℕ) where
-  kid-first : (i n m k : ℕ) (xs ys : List ℕ) → m ≡ i + suc n → unnamedChild p (e i) ≡ true
-      → ((ys : List ℕ) (xs : List ℕ) → kidsFrom e p (suc i) n ≡ xs ++ k ∷ ys → Kid e p (suc i) m k ys)
-      → i ∷ kidsFrom e p (suc i) n ≡ xs ++ k ∷ ys → Kid e p i m k ys
+  pub kids-end : (i n : ℕ) → n ≤ i → kids e p i n ≡ []
   unfolding kids
-  kid-first i n m k [] ys t b ih h =
-      let x : i ≡ k = cc in
-      let y : kidsFrom e p (suc i) n ≡ ys = cc in
-      let z : m - suc k ≡ n = omega arith in
-      record { above = omega arith; below = omega arith; child = rw (← x) b; rest = rw z (sym y ∙ rw x) }
-  kid-first i n m k (x ∷ xs) ys t b ih h =
-      let y : kidsFrom e p (suc i) n ≡ xs ++ k ∷ ys = cc in
-      let r = ih ys xs y in
-      record { above = omega (arith, r .above); below = r .below; child = r .child; rest = r .rest }
+  kids-end i n l = between-end _ i n l
 
-  pub kid-split : (i n m k : ℕ) (xs ys : List ℕ) → m ≡ i + n → kidsFrom e p i n ≡ xs ++ k ∷ ys → Kid e p i m k ys
-  unfolding kidsFrom
-  kid-split i zero m k xs ys t h = nil-not xs k ys h
-  kid-split i (suc n) m k xs ys t h = go (λ ys xs. kid-split (suc i) n m k xs ys (omega arith)) (unnamedChild p (e i)) refl h
-    where
-      go : ((ys : List ℕ) (xs : List ℕ) → kidsFrom e p (suc i) n ≡ xs ++ k ∷ ys → Kid e p (suc i) m k ys) → (b : Bool) → unnamedChild p (e i) ≡ b
-          → cond b (i ∷ kidsFrom e p (suc i) n) (kidsFrom e p (suc i) n) ≡ xs ++ k ∷ ys → Kid e p i m k ys
-      go ih true b h = kid-first i n m k xs ys t b ih h
-      go ih false b h =
-          let r = ih ys xs h in
-          record { above = omega (arith, r .above); below = r .below; child = r .child; rest = r .rest }
-
-  pub kids-split : (i m k : ℕ) (xs ys : List ℕ) → i ≤ m → kids e p i m ≡ xs ++ k ∷ ys → Kid e p i m k ys
+  -- no child from i on
+  pub kids-none : (i n : ℕ) → ((k : ℕ) → i ≤ k → k < n → e k .parent ≡ p → ⊥) → kids e p i n ≡ []
   unfolding kids
-  kids-split i m k xs ys l h = kid-split i (m - i) m k xs ys (omega arith) h
+  kids-none i n h = between-none _ i n (λ k a b. child-other p (e k) (h k a b))
 
-  -- no entry below b is a kid
-  pub kids-lower : (b m : ℕ) → b ≤ m → ((i : ℕ) → i < b → unnamedChild p (e i) ≡ false) → kids e p 0 m ≡ kids e p b m
-  kids-lower zero m l h = refl
-  kids-lower (suc b) m l h =
-      kids-lower b m (omega arith) (λ i k. h i (omega arith)) ∙ kids-skip e p b m l (h b (omega arith)) ∙ ap (λ (x : ℕ). kids e p x m) (add-one b)
+-- as the code has it: r is entry i
+module _ (e : ℕ → Entry) (p i n : ℕ) (r : Entry) (q : r ≡ e i) (l : i < n) where
+  pub kid-yes : r .parent ≡ p → r .units ≡ 0 → kids e p i n ≡ i ∷ kids e p (i + 1) n
+  unfolding kids
+  kid-yes h z = between-here _ i n l (rw (← q) (child-yes p r h z))
+
+  pub kid-other : (r .parent ≡ p → ⊥) → kids e p i n ≡ kids e p (i + 1) n
+  unfolding kids
+  kid-other h = between-skip _ i n l (rw (← q) (child-other p r h))
+
+  pub kid-named : (r .units ≡ 0 → ⊥) → kids e p i n ≡ kids e p (i + 1) n
+  unfolding kids
+  kid-named h = between-skip _ i n l (rw (← q) (child-named p r h))
+
+-- k is a kid of p, and ys come after it
+abbrev pub Kid : (ℕ → Entry) → ℕ → ℕ → ℕ → List ℕ → Type 0
+Kid e p n k ys = Picked (λ i. unnamedChild p (e i)) 0 n k ys
+
+pub kids-split : (e : ℕ → Entry) (p n k : ℕ) (xs ys : List ℕ) → kids e p 0 n ≡ xs ++ k ∷ ys → Kid e p n k ys
+unfolding kids
+kids-split e p n k xs ys h = between-split _ n k xs ys h
+
+pub kid-rest : (e : ℕ → Entry) (p n k : ℕ) (ys : List ℕ) → Kid e p n k ys → ys ≡ kids e p (k + 1) n
+unfolding kids
+kid-rest e p n k ys t = t .rest ∙ ap (λ (x : ℕ). kids e p x n) (sym (add-one k))
 
 -- entries come after their parent
 pub kids-own : (e : ℕ → Entry) (p n : ℕ) → Ordered e n → p ≤ n → kids e p 0 n ≡ kids e p p n
-kids-own e p n o l = kids-lower e p p n l (λ i k. child-other p (e i) (child-after e n p o i (omega arith) k))
+unfolding kids
+kids-own e p n o l = between-lower _ p n l (λ i k. child-other p (e i) (child-after e n p o i (omega arith) k))
 
 -- ---- the unnamed slot is the kids
 
@@ -158,12 +106,12 @@ unnamed-step s p k e r = go (eqb (e .parent) p) (eqb (e .units) 0) refl
     go true false h = rw (put-some (nameOf s e) k r (some-name s e (eqb-false _ _ h))) (unnamed-named _ k r ∙ sym (append-nil (unnamedIn r)))
 
 pub unnamed-kids : (s : List ℕ) (e : ℕ → Entry) (p n : ℕ) → unnamedIn (slotsOf s (firsts n e) p) ≡ kids e p 0 n
-unfolding kids kidsFrom unnamedIn
-unnamed-kids s e p zero = ap unnamedIn (slots-start s p e)
+unfolding kids unnamedIn
+unnamed-kids s e p zero = ap unnamedIn (slots-start s p e) ∙ sym (between-zero _)
 unnamed-kids s e p (suc n) =
     ap unnamedIn (slots-more s p n e) ∙ unnamed-step s p n (e n) (slotsOf s (firsts n e) p)
     ∙ ap (λ (l : List ℕ). l ++ cond (unnamedChild p (e n)) (n ∷ []) []) (unnamed-kids s e p n)
-    ∙ sym (rw sub-zero (kids-last e p 0 n ∙ rw (zero-add, sub-zero)))
+    ∙ sym (between-last _ n)
 
 -- ---- the elements
 
@@ -188,11 +136,14 @@ spread-value levels s e n j l = rw (getElem-firsts n e j l) (go (eqb (e j .kind)
   where
     val : ℕ → Value
     val k = valueFrom levels s (firsts n e) k (getElem? (firsts n e) k)
+
     slots : List Slot
     slots = slotsOf s (firsts n e) (suc j)
+
     deep : (b : Bool) → spread (cond b (list (elements val (unnamedIn slots))) (level j)) j ≡ firstOnes b (elements val (unnamedIn slots)) j
     deep true = refl
     deep false = refl
+
     go : (b : Bool) → spread (valueIf b (λ _. collapse val j slots) (leaf s (e j))) j ≡ firstOnes (b && onlyUnnamed slots) (elements val (unnamedIn slots)) j
     go false = spread-leaf s (e j) j
     go true = rw collapse-is (deep (onlyUnnamed slots))
@@ -211,7 +162,7 @@ pub elements-deep : (levels : ℕ) (s : List ℕ) (e : ℕ → Entry) (n p : ℕ
     → elementsFrom (suc levels) s (firsts n e) p
     ≡ fromFirst (λ j. firstOnes (listAt s e n j) (elementsFrom levels s (firsts n e) (suc j)) j) (kids e p 0 n)
 unfolding elementsFrom elements
-elements-deep levels s e n p = rw unnamed-kids (go (kids e p 0 n) (λ k ys h. kids-split e p 0 n k [] ys (omega arith) h .below))
+elements-deep levels s e n p = rw unnamed-kids (go (kids e p 0 n) (λ k ys h. kids-split e p n k [] ys h .below))
   where
     go : (l : List ℕ) → ((k : ℕ) (ys : List ℕ) → l ≡ k ∷ ys → k < n)
         → elements (λ j. valueFrom (suc levels) s (firsts n e) j (getElem? (firsts n e) j)) l
@@ -283,6 +234,7 @@ elements-some (suc d) s e n p o h =
     first : (b : Bool) (l : List ℕ) (j : ℕ) → (b ≡ true → l ≡ [] → ⊥) → firstOnes b l j ≡ [] → ⊥
     first true l j f h = f refl h
     first false l j f h = let z : _≡_ {A = ℕ} 0 1 = cc in omega arith
+
     go : ((j : ℕ) → onlyUnnamed (slotsOf s (firsts n e) (suc j)) ≡ true → elementsFrom d s (firsts n e) (suc j) ≡ [] → ⊥)
         → (l : List ℕ) → (l ≡ [] → ⊥) → fromFirst (λ j. firstOnes (listAt s e n j) (elementsFrom d s (firsts n e) (suc j)) j) l ≡ [] → ⊥
     go ih [] o h = o refl
@@ -358,6 +310,7 @@ after-of (suc d) s e n p xs k ys h =
   where
     f : ℕ → List ℕ
     f j = firstOnes (listAt s e n j) (elementsFrom d s (firsts n e) (suc j)) j
+
     inner : ((c : ℕ) (xs zs : List ℕ) → elementsFrom d s (firsts n e) (suc c) ≡ xs ++ k ∷ zs → After e n (suc c) k zs)
         → (c : ℕ) (js zs : List ℕ) → kids e p 0 n ≡ c ∷ js → ys ≡ zs ++ js
         → (b : Bool) → firstOnes b (elementsFrom d s (firsts n e) (suc c)) c ≡ xs ++ k ∷ zs → After e n p k ys
@@ -368,10 +321,12 @@ after-of (suc d) s e n p xs k ys h =
         let y : ys ≡ js = q ∙ ap (λ (l : List ℕ). l ++ js) (o .1) in
         let g : kids e p 0 n ≡ [] ++ k ∷ ys = cc in
         here [] g
+
     whole : ((c : ℕ) (xs zs : List ℕ) → elementsFrom d s (firsts n e) (suc c) ≡ xs ++ k ∷ zs → After e n (suc c) k zs)
         → (c : ℕ) (js : List ℕ) → kids e p 0 n ≡ c ∷ js → Split (f c) js xs k ys → After e n p k ys
     whole ih c js t (left zs a q) = inner ih c js zs t q (listAt s e n c) a
     whole ih c js t (right ws a) = here (c ∷ ws) (t ∙ ap (λ (l : List ℕ). c ∷ l) a)
+
     go : ((c : ℕ) (xs zs : List ℕ) → elementsFrom d s (firsts n e) (suc c) ≡ xs ++ k ∷ zs → After e n (suc c) k zs)
         → (l : List ℕ) → kids e p 0 n ≡ l → fromFirst f l ≡ xs ++ k ∷ ys → After e n p k ys
     go ih [] t h = nil-not xs k ys h
@@ -389,16 +344,26 @@ parent-of p e h = go (eqb (e .parent) p) refl h
     go true h k = eqb-true _ _ h
     go false h k = absurd (let z : _≡_ {A = ℕ} 0 1 = cc in omega arith)
 
+-- a kid comes after its level
+pub head-low : (e : ℕ → Entry) (n p j : ℕ) → Ordered e n → some j ≡ headOf (kids e p 0 n) → p ≤ j
+head-low e n p j o h =
+    let a = head-kids (kids e p 0 n) j h in
+    let t = kids-split e p n j [] (a .0) (a .1) in
+    let x = parent-of p (e j) (t .passes) in
+    omega (arith, o .older j (t .below), x)
+
 pub climb : (e : ℕ → Entry) (n p k : ℕ) (ys : List ℕ) → Ordered e n → After e n p k ys → Climb e n p k ys
 climb e n p k ys o (here xs h) =
-    let t = kids-split e p 0 n k xs ys (omega arith) h in
-    top (parent-of p (e k) (t .child)) (t .rest ∙ ap (λ (x : ℕ). kids e p x n) (sym (add-one k)))
+    let t = kids-split e p n k xs ys h in
+    top (parent-of p (e k) (t .passes)) (kid-rest e p n k ys t)
 climb e n p k ys o (deep c js zs h a q) = go (climb e n (suc c) k zs o a)
   where
-    t : Kid e p 0 n c js
-    t = kids-split e p 0 n c [] js (omega arith) h
+    t : Kid e p n c js
+    t = kids-split e p n c [] js h
+
     low : p ≤ c
-    low = let x = parent-of p (e c) (t .child) in omega (arith, o .older c (t .below), x)
+    low = let x = parent-of p (e c) (t .passes) in omega (arith, o .older c (t .below), x)
+
     go : Climb e n (suc c) k zs → Climb e n p k ys
     go (top x y) =
         let z : e k .parent - 1 ≡ c = omega (arith, x) in
@@ -487,16 +452,8 @@ number-next s e n p k o h = h ∙ get-head (elementsOf s (firsts n e) p) (suc k)
 -- ---- how many there can be
 
 kids-short : (e : ℕ → Entry) (p n : ℕ) → length (kids e p 0 n) ≤ n
-unfolding kids kidsFrom
-kids-short e p n = let h = go 0 (n - 0) in omega arith
-  where
-    one : (b : Bool) (i m : ℕ) (l : List ℕ) → length l ≤ m → length (cond b (i ∷ l) l) ≤ suc m
-    one true i m l h = omega arith
-    one false i m l h = omega arith
-
-    go : (i m : ℕ) → length (kidsFrom e p i m) ≤ m
-    go i zero = omega arith
-    go i (suc m) = one (unnamedChild p (e i)) i m (kidsFrom e p (suc i) m) (go (suc i) m)
+unfolding kids
+kids-short e p n = between-short _ n
 
 pub elements-short : (d : ℕ) (s : List ℕ) (e : ℕ → Entry) (n p : ℕ) → length (elementsFrom d s (firsts n e) p) ≤ (d + 1) * n
 elements-short zero s e n p = rw elements-flat (let h = kids-short e p n in omega arith)

@@ -10,7 +10,8 @@ use borrow.Author.Tests.{eq-eqb, ne-eqb}
 use lib.Dec.{eqb}
 use lib.ListN.{length}
 use Rattle.format.proofs.Text.{length-name}
-use Rattle.format.proofs.Values.{step, put-some, leaf-by}
+use Rattle.format.proofs.Lookups.{leaf-by}
+use Rattle.format.proofs.Puts.{step, put-some}
 use Rattle.format.specs.Bytes.{same}
 use Rattle.format.specs.Text.{units, lossy, replacedAfter}
 use Rattle.format.specs.Trees.{mostDepth}

@@ -117,6 +117,9 @@ module _ (s : List ℕ) (es : List Entry) where
   float-other (clx.Level i) h = refl
   float-other (clx.List i) h = refl
 
--- the entry of a level is inside
+-- the entry of a level or a list is inside
 pub inside-level : (n : ℕ) (v : ClxValue) (i : ℕ) → v ≡ clx.Level i → Inside n v → i < n
 inside-level n v i h k = subst (Inside n) h k
+
+pub inside-list : (n : ℕ) (v : ClxValue) (i : ℕ) → v ≡ clx.List i → Inside n v → i < n
+inside-list n v i h k = subst (Inside n) h k

@@ -8,7 +8,7 @@ use native.Mathlib.Nat.{add-zero, add-suc}
 use native.Mathlib.Omega.{arith}
 use borrow.Author.Tests.{eq-eqb, ne-eqb}
 use lib.ListN.{length}
-use Rattle.format.proofs.Values.{find-step}
+use Rattle.format.proofs.Puts.{find-step}
 use Rattle.format.specs.Bytes.{same}
 use Rattle.format.specs.Values.{nameOf, slotsOf, find}
 use Rattle.format.specs.declared.Entry.{Entry}

@@ -1,7 +1,7 @@
 -- The entries that stand in a table, what a lookup may assume of them, and what a search answers.
-use Prim.Native.Nat.{ℕ, zero, suc, _+_, _*_, _≤_, _<_}
+use Prim.Native.Nat.{ℕ, zero, suc, _+_, _-_, _*_, _≤_, _<_}
 use mathlib.Core.Path.{_≡_}
-use mathlib.Core.Bool.{_&&_, cond}
+use mathlib.Core.Bool.{Bool, _&&_, cond}
 use mathlib.Core.Option.{Option, none, some}
 use mathlib.Core.List.{List, [], _∷_, _++_}
 use lib.ListN.{length}
@@ -33,6 +33,18 @@ firsts (suc n) e = firsts n e ++ e n ∷ []
 -- the first n entries of a table
 abbrev pub entriesIn : List ℕ → ℕ → List Entry
 entriesIn t n = firsts n (entryIn t)
+
+-- ---- numbers of entries
+
+-- of the n numbers from i on, those that pass a test
+unfoldable pub passing : (ℕ → Bool) → ℕ → ℕ → List ℕ
+passing f i zero = []
+passing f i (suc n) = cond (f i) (i ∷ passing f (suc i) n) (passing f (suc i) n)
+
+-- of the numbers from i on and below n
+unfoldable pub between : (ℕ → Bool) → ℕ → ℕ → List ℕ
+unfolding passing
+between f i n = passing f i (n - i)
 
 -- ---- what a lookup may assume
 

@@ -1,15 +1,15 @@
 -- What the answers of the lookups stand for, in document 01's terms.
-use Prim.Native.Nat.{ℕ, zero, suc, _+_, _-_, _<_}
-use mathlib.Core.Bool.{Bool, true, false, cond, not, _&&_}
+use Prim.Native.Nat.{ℕ, suc, _<_}
+use mathlib.Core.Bool.{Bool, true, false, _&&_}
 use mathlib.Core.Option.{Option, none, some}
 use mathlib.Core.List.{List, [], _∷_}
 use lib.Dec.{eqb}
 use lib.IntN.{pos, negsuc}
 use lib.ListN.{getElem?}
 use Rattle.format.specs.Trees.{mostDepth}
-use Rattle.format.specs.Values.{Value, flag, whole, double, text, bytes, level, list, Slot, named, unnamed, slotsOf, elements, valueFrom, find}
+use Rattle.format.specs.Values.{Value, flag, whole, double, text, bytes, level, list, Slot, named, unnamed, slotsOf, elements, valueFrom}
 use Rattle.format.specs.declared.Entry.{Entry}
-use Rattle.lookup.specs.Table.{firsts}
+use Rattle.lookup.specs.Table.{firsts, between}
 use Rattle.lookup.specs.declared.ClxValue.{ClxValue}
 use Rattle.lookup.specs.declared.ClxValue.the-variants as clx
 use Rattle.lookup.specs.declared.Field.{Field}
@@ -83,14 +83,9 @@ FieldInside n Absent = Unit
 abbrev pub unnamedChild : ℕ → Entry → Bool
 unnamedChild p e = eqb (e .parent) p && eqb (e .units) 0
 
-unfoldable pub kidsFrom : (ℕ → Entry) → ℕ → ℕ → ℕ → List ℕ
-kidsFrom e p i zero = []
-kidsFrom e p i (suc n) = cond (unnamedChild p (e i)) (i ∷ kidsFrom e p (suc i) n) (kidsFrom e p (suc i) n)
-
 -- the unnamed children of p from entry i on, of n entries
 unfoldable pub kids : (ℕ → Entry) → ℕ → ℕ → ℕ → List ℕ
-unfolding kidsFrom
-kids e p i n = kidsFrom e p i (n - i)
+kids e p i n = between (λ k. unnamedChild p (e k)) i n
 
 -- the first of a list
 abbrev pub headOf : List ℕ → Option ℕ

@@ -1,15 +1,15 @@
 -- The places of a level, and what a walk over child levels has still before it.
-use Prim.Native.Nat.{ℕ, zero, suc, _+_, _-_, _≤_, _<_}
+use Prim.Native.Nat.{ℕ, _+_, _-_, _≤_, _<_}
 use mathlib.Core.Path.{_≡_}
-use mathlib.Core.Bool.{Bool, true, false, cond, not, _&&_}
+use mathlib.Core.Bool.{Bool, true, false, _&&_}
 use mathlib.Core.Option.{Option, none, some}
 use mathlib.Core.List.{List, [], _∷_}
 use lib.Dec.{eqb}
-use lib.ListN.{drop, getElem?}
+use lib.ListN.{length, drop, getElem?}
 use Rattle.format.specs.Values.{Slot, named, unnamed, nameOf, slotsOf, find}
 use Rattle.format.specs.Loops.{levelsOf, levelsIn}
 use Rattle.format.specs.declared.Entry.{Entry}
-use Rattle.lookup.specs.Table.{firsts, lastNamed, Run}
+use Rattle.lookup.specs.Table.{firsts, between, lastNamed, Run}
 use Rattle.lookup.specs.Values.{unnamedIn, elementsOf}
 use Rattle.lookup.specs.declared.Turn.{Turn}
 use Rattle.lookup.specs.declared.Turn.the-variants as turn
@@ -26,15 +26,9 @@ isNone (some i) = false
 unfoldable pub leads : List ℕ → (ℕ → Entry) → ℕ → ℕ → Bool
 leads s e p i = eqb (e i .parent) p && isNone (lastNamed s e p (nameOf s (e i)) i)
 
-unfoldable pub leadsFrom : List ℕ → (ℕ → Entry) → ℕ → ℕ → ℕ → List ℕ
-unfolding leads
-leadsFrom s e p i zero = []
-leadsFrom s e p i (suc n) = cond (leads s e p i) (i ∷ leadsFrom s e p (suc i) n) (leadsFrom s e p (suc i) n)
-
 -- the places from entry i on, of n entries
 unfoldable pub leadsIn : List ℕ → (ℕ → Entry) → ℕ → ℕ → ℕ → List ℕ
-unfolding leadsFrom
-leadsIn s e p i n = leadsFrom s e p i (n - i)
+leadsIn s e p i n = between (leads s e p) i n
 
 abbrev pub namedOr : List ℕ → Option ℕ → Slot
 namedOr n none = unnamed []
@@ -66,13 +60,29 @@ restOf s e n (turn.Places p r i) = placeLevels s e n p i
 restOf s e n (turn.Elements p k i) = levelsOf s (firsts n e) (drop k (elementsOf s (firsts n e) p))
 restOf s e n turn.Over = []
 
--- places are looked for in the level's run; entry i is element number k
-abbrev pub Standing : List ℕ → (ℕ → Entry) → ℕ → Turn → Type 0
-Standing s e n (turn.Places p r i) = Run e n p r × (p ≤ i)
-Standing s e n (turn.Elements p k i) = (i < n) × (getElem? (elementsOf s (firsts n e) p) k ≡ some i)
-Standing s e n turn.Over = Unit
+-- places are looked for in the level's run; entry i is element number k, whatever the file
+abbrev pub Standing : (ℕ → Entry) → ℕ → Turn → Type 0
+Standing e n (turn.Places p r i) = Run e n p r × (p ≤ i)
+Standing e n (turn.Elements p k i) = (i < n) × ((s : List ℕ) → getElem? (elementsOf s (firsts n e) p) k ≡ some i)
+Standing e n turn.Over = Unit
+
+-- a walk stands where the child levels l are still before it
+pub record Walk (s : List ℕ) (e : ℕ → Entry) (n : ℕ) (l : List ℕ) (t : Turn) : Type 0 where
+  pub good : Standing e n t
+  pub rest : l ≡ restOf s e n t
+
+-- how many elements a walk has still before it
+abbrev pub leftOf : List ℕ → (ℕ → Entry) → ℕ → Turn → ℕ
+leftOf s e n (turn.Places p r i) = 0
+leftOf s e n (turn.Elements p k i) = length (elementsOf s (firsts n e) p) - k
+leftOf s e n turn.Over = 0
+
+-- a walk after element number k of the list p
+pub record Behind (s : List ℕ) (e : ℕ → Entry) (n p k : ℕ) (t : Turn) : Type 0 where
+  pub walk : Walk s e n (levelsOf s (firsts n e) (drop (k + 1) (elementsOf s (firsts n e) p))) t
+  pub less : leftOf s e n t ≤ length (elementsOf s (firsts n e) p) - (k + 1)
 
 -- the first of the child levels l, and where the walk stands after it
 abbrev pub NextOf : List ℕ → (ℕ → Entry) → ℕ → List ℕ → Next → Type 0
-NextOf s e n l (next.Child i t) = (i < n) × Standing s e n t × (l ≡ i ∷ restOf s e n t)
+NextOf s e n l (next.Child i t) = (i < n) × Standing e n t × (l ≡ i ∷ restOf s e n t)
 NextOf s e n l next.End = l ≡ []

@@ -3,11 +3,9 @@ ghost use mathlib.Core.Path.{_≡_};
 ghost use Prim.Native.Nat.{_+_, _*_, _≤_};
 ghost use lib.ListN.{length};
 ghost use Rattle.lookup.specs.Table.{entryIn, Rows, Below, Run, LastChild};
-
+use crate::Found;
 use cursor::le8;
 use format::Entry;
-
-use crate::Found;
 
 // Entry number i.
 pub fn entry_at(table: &[u8], i: usize) -> Entry

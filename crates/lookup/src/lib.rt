@@ -2,10 +2,13 @@
 // the whole tree by 0. Entries stand in file order, so what lies below a level is one run of entries, and a lookup in the level
 // looks at that run alone.
 
+pub mod child;
 pub mod entry;
-pub mod named;
-pub mod value;
+pub mod level;
 pub mod list;
+pub mod named;
+pub mod place;
+pub mod value;
 
 // An entry that a search found.
 pub enum Found {
@@ -35,9 +38,17 @@ pub enum Field {
 // Where a walk over child levels stands.
 pub enum Turn {
     // in a level whose run ends at `end`: at the places from entry `at` on
-    Places { parent: usize, end: usize, at: usize },
+    Places {
+        parent: usize,
+        end: usize,
+        at: usize,
+    },
     // in a list: at element number `before`, which is entry `at`
-    Elements { parent: usize, before: u64, at: usize },
+    Elements {
+        parent: usize,
+        before: u64,
+        at: usize,
+    },
     Over,
 }
 

@@ -6,7 +6,6 @@ ghost use mathlib.Core.Option.{some};
 ghost use lib.ListN.{length, getElem?};
 ghost use Rattle.lookup.specs.Table.{entryIn, entriesIn, Rows, found, Within};
 ghost use Rattle.lookup.specs.Values.{kids, headOf, listAt, elementsOf};
-
 use crate::Found;
 use crate::entry::entry_at;
 use crate::entry::parent_at;

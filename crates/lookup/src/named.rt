@@ -6,13 +6,11 @@ ghost use Rattle.format.specs.Bytes.{same};
 ghost use Rattle.format.specs.Text.{units, lossy};
 ghost use Rattle.format.specs.Values.{nameOf};
 ghost use Rattle.lookup.specs.Table.{entryIn, Lies, Holds, Below, found, Within, lastNamed};
-
-use name::name_is;
-use name::same_name;
-
 use crate::Found;
 use crate::entry::child_before;
 use crate::entry::entry_at;
+use name::name_is;
+use name::same_name;
 
 // Whether entry i bears the name, of ASCII bytes.
 fn bears(file: &[u8], table: &[u8], i: usize, name: &[u8]) -> bool
@@ -24,7 +22,14 @@ fn bears(file: &[u8], table: &[u8], i: usize, name: &[u8]) -> bool
 }
 
 // The last child of a level with the name, before entry `to` of its run.
-pub fn last_named(file: &[u8], table: &[u8], used: usize, parent: usize, to: usize, name: &[u8]) -> Found
+pub fn last_named(
+    file: &[u8],
+    table: &[u8],
+    used: usize,
+    parent: usize,
+    to: usize,
+    name: &[u8],
+) -> Found
     requires { ⌜ Holds (now file) (now table) used × Below (entryIn (now table)) used parent to ⌝ }
     ensures { λ r. ⌜ (found r ≡ lastNamed (now (file .entry)) (entryIn (now (table .entry))) parent (now (name .entry)) to) × Within to r ⌝ }
 {
@@ -54,7 +59,15 @@ fn alike(file: &[u8], table: &[u8], i: usize, at: usize, n: usize) -> bool
 }
 
 // The last child of a level with the name of n units at `at`, before entry `to` of its run.
-pub fn last_alike(file: &[u8], table: &[u8], used: usize, parent: usize, to: usize, at: usize, n: usize) -> Found
+pub fn last_alike(
+    file: &[u8],
+    table: &[u8],
+    used: usize,
+    parent: usize,
+    to: usize,
+    at: usize,
+    n: usize,
+) -> Found
     requires { ⌜ Holds (now file) (now table) used × Below (entryIn (now table)) used parent to × (at + 2 * n ≤ length (now file)) ⌝ }
     ensures { λ r. ⌜ (found r ≡ lastNamed (now (file .entry)) (entryIn (now (table .entry))) parent (lossy (units n (now (file .entry)) at)) to) × Within to r ⌝ }
 {

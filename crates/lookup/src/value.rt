@@ -13,18 +13,16 @@ ghost use Rattle.format.specs.declared.Entry.{Entry};
 ghost use Rattle.number.specs.Readings.{natural, integer, real};
 ghost use Rattle.lookup.specs.Table.{entriesIn, Lies, Rows, Holds, found, Within};
 ghost use Rattle.lookup.specs.Values.{onlyUnnamed, meaning, Inside};
-
-use cursor::le4;
-use cursor::le8;
-use format::Entry;
-use number::double_of;
-use number::Integer;
-use number::Natural;
-use number::Real;
-
 use crate::ClxValue;
 use crate::Found;
 use crate::entry::entry_at;
+use cursor::le4;
+use cursor::le8;
+use format::Entry;
+use number::Integer;
+use number::Natural;
+use number::Real;
+use number::double_of;
 
 // The type of a level's entry.
 pub const LEVEL: u64 = 11;

@@ -130,7 +130,7 @@ module _ (b : ℕ) (I : b ≤ 0x7ff0_0000_0000_0000) where
 
 -- ---- with a sign
 
-abbrev pub capped-to : Bool → ℕ → ℤ
+abbrev capped-to : Bool → ℕ → ℤ
 capped-to s u = cond s (negℤ (pos (min u (2 ^ 63)))) (pos (min u (2 ^ 63 - 1)))
 
 signed-min : (s : Bool) (w : ℕ) → capped-to s w ≡ capped-to s (min w (2 ^ 64 - 1))

@@ -93,7 +93,7 @@ module _ (s : Bool) (q : ℕ) (hi : q < 2 ^ 53) where
   closest-less n h = le-trans (closest-mono q (2 ^ n) q (2 ^ 29) (pow-pos n) (pow-pos 29) (mul-le-mul-left q (pow-mono h))) closest-le
 
   -- below a third of a unit nothing is left
-  pub closest-none : (n : ℕ) → 55 ≤ n → closest q (2 ^ n) ≡ 0
+  closest-none : (n : ℕ) → 55 ≤ n → closest q (2 ^ n) ≡ 0
   closest-none n h = le-zero (closest-mono q (2 ^ n) 1 3 (pow-pos n) (lit< tt) (le-trans (go q hi) (le-trans (pow-mono h) (le-of-eq (sym (one-mul (2 ^ n)))))))
     where
       go : (q : ℕ) → q < 9007199254740992 → q * 3 ≤ 36028797018963968
@@ -121,12 +121,12 @@ module _ (j q : ℕ) (lo : 2 ^ 23 ≤ q) (hi : q ≤ 2 ^ 24) where
     | inr g ↦ le-trans (pow-mono {i = 277} {j = 23 + j} (omega arith)) (le-trans (le-of-eq (pow-add 2 23 j)) (mul-le-mul-right (2 ^ j) lo))
   ]
 
-pub infinity : (s : Bool) → ofBits binary32 (cond s 0x8000_0000 0 + 0x7f80_0000) ≡ inf s
+infinity : (s : Bool) → ofBits binary32 (cond s 0x8000_0000 0 + 0x7f80_0000) ≡ inf s
 unfolding ofBits
 infinity true = refl
 infinity false = refl
 
-pub no-number : (s : Bool) → ofBits binary32 (cond s 0x8000_0000 0 + 0x7fc0_0000) ≡ nan
+no-number : (s : Bool) → ofBits binary32 (cond s 0x8000_0000 0 + 0x7fc0_0000) ≡ nan
 unfolding ofBits
 no-number true = refl
 no-number false = refl
@@ -134,7 +134,7 @@ no-number false = refl
 -- ---- the patterns, of a value q * 2 ^ k / 2 ^ 1074
 
 module _ (v : Float) (s : Bool) (q : ℕ) (hi : q < 2 ^ 53) where
-  pub low-bits : (k : ℕ) → HasValue v s (q * 2 ^ k) (2 ^ 1074) → k ≤ 895 → ofBits binary32 (cond s 0x8000_0000 0 + closest q (2 ^ (925 - k))) ≡ narrow v
+  low-bits : (k : ℕ) → HasValue v s (q * 2 ^ k) (2 ^ 1074) → k ≤ 895 → ofBits binary32 (cond s 0x8000_0000 0 + closest q (2 ^ (925 - k))) ≡ narrow v
   low-bits k h l =
       let r = closest q (2 ^ (925 - k)) in
       let small : r ≤ 2 ^ 24 = closest-less s q hi (925 - k) (room k l) in
@@ -146,12 +146,12 @@ module _ (v : Float) (s : Bool) (q : ℕ) (hi : q < 2 ^ 53) where
       room k h = omega arith
 
   module _ (j : ℕ) (h : HasValue v s (q * 2 ^ (896 + j)) (2 ^ 1074)) (lo : 2 ^ 52 ≤ q) where
-    pub mid-bits : j * 8388608 + closest q (2 ^ 29) < 2139095040 → ofBits binary32 (cond s 0x8000_0000 0 + (j * 8388608 + closest q (2 ^ 29))) ≡ narrow v
+    mid-bits : j * 8388608 + closest q (2 ^ 29) < 2139095040 → ofBits binary32 (cond s 0x8000_0000 0 + (j * 8388608 + closest q (2 ^ 29))) ≡ narrow v
     mid-bits p =
         rounded-bits binary32 s (q * 2 ^ (896 + j)) (2 ^ 1074) (closest q (2 ^ 29)) j (round-mid s q hi j lo) (closest-le s q hi) (inr (closest-ge s q hi lo)) (under-top j (closest q (2 ^ 29)) (closest-ge s q hi lo) (closest-le s q hi) p)
         ∙ sym (narrow-is v s (q * 2 ^ (896 + j)) (2 ^ 1074) (pow-pos 1074) h)
 
-    pub over-bits : 2139095040 ≤ j * 8388608 + closest q (2 ^ 29) → ofBits binary32 (cond s 0x8000_0000 0 + 2139095040) ≡ narrow v
+    over-bits : 2139095040 ≤ j * 8388608 + closest q (2 ^ 29) → ofBits binary32 (cond s 0x8000_0000 0 + 2139095040) ≡ narrow v
     over-bits p =
         infinity s
         ∙ sym (units-inf binary32 s (closest q (2 ^ 29)) j (over-top j (closest q (2 ^ 29)) (closest-ge s q hi lo) (closest-le s q hi) p))

@@ -47,7 +47,7 @@ pub ofBits-is : (f : Format) (b : ℕ) → ofBits f b ≡ ofFields f (leb (top f
 unfolding ofBits
 ofBits-is f b = refl
 
-odd-clear : (d : ℕ) (s : Bool) (q k l : ℕ) → odd d false q k l ≡ magnitude (odd d s q k l)
+pub odd-clear : (d : ℕ) (s : Bool) (q k l : ℕ) → odd d false q k l ≡ magnitude (odd d s q k l)
 unfolding odd magnitude
 odd-clear d s zero k l = refl
 odd-clear d s (suc q) k l = refl

@@ -1,2 +1,3 @@
 pub mod Readings
 pub mod Patterns
+pub mod Exact

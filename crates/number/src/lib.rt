@@ -3,7 +3,7 @@
 ghost use mathlib.Core.Path.{_≡_};
 ghost use mathlib.Core.Bool.{_&&_};
 ghost use mathlib.Core.Option.{some};
-ghost use Prim.Native.Nat.{_+_, _^_, _<_, _≤_, min};
+ghost use Prim.Native.Nat.{ℕ, _+_, _^_, _<_, _≤_, min};
 ghost use lib.IntN.{pos, negsuc, negℤ};
 ghost use lib.Ieee as Ieee;
 ghost use lib.Ieee.{binary32, binary64};
@@ -11,6 +11,7 @@ ghost use lib.Ieee.Nearest.{closest};
 ghost use Rattle.format.specs.Numbers as Numbers;
 ghost use Rattle.format.specs.Calibration as Calibration;
 ghost use Rattle.number.specs.Readings.{natural, integer, real};
+ghost use Rattle.number.specs.Exact.{Exact, Steps};
 ghost use Rattle.number.specs.Patterns.{Highest, Nearest, Narrowed};
 
 // What an unsigned reading gives.
@@ -133,11 +134,10 @@ pub fn signed(x: f64) -> Integer
     ensures { λ r. ⌜ integer r ≡ some (Ieee.toSigned 63 x) ⌝ }
 {
     let bits = double_bits(x);
-    let rest = bits % SIGN;
-    if rest > INFINITE {
+    if bits % SIGN > INFINITE {
         return Integer::Is(0);
     }
-    let size = whole_part(rest);
+    let size = whole_part(bits % SIGN);
     if bits < SIGN {
         Integer::Is(at_most(size, SIGN - 1))
     } else {
@@ -292,9 +292,10 @@ pub fn stated_step(x: f64) -> Real
     }
 }
 
-// The z step of a stack of `count` from `low` to `high`.
+// The z step of a stack of `count` from `low` to `high`: exact where the distance and the step are doubles.
 pub fn span_step(count: u64, high: f64, low: f64) -> Real
     ensures { λ r. ⌜ real r ≡ Calibration.spanStep count (some high) (some low) ⌝ }
+    ensures exact { λ r. ⌜ ((step : ℕ) → Exact count high low step → Steps r step) ⌝ }
 {
     if count > 1 {
         Real::Is(magnitude(high - low) / (of_whole(count) - 1.0))

@@ -1,6 +1,6 @@
 -- "Border: the viewer, which remains Rust, calls one function that opens and then reads a plane, over numbers and byte slices. The first refusal is
 -- its answer."
-use Prim.Native.Nat.{ℕ, _/_}
+use Prim.Native.Nat.{ℕ}
 use mathlib.Core.List.{List}
 use lib.ListN.{length}
 use Rattle.format.specs.Bytes.{zeros}

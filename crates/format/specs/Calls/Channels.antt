@@ -1,5 +1,5 @@
 -- "Channels: file, summary, table (zero afterwards), and a lent row of channel records, one for each component; surplus records zero."
-use Prim.Native.Nat.{ℕ, _/_}
+use Prim.Native.Nat.{ℕ}
 use mathlib.Core.Bool.{cond}
 use mathlib.Core.List.{List, []}
 use lib.ListN.{length}

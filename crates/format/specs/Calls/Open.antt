@@ -1,6 +1,6 @@
 -- "Open: file, entry table. Answer: number (0 when accepted) and summary (all zero if refused). The table is all zero afterwards."
-use Prim.Native.Nat.{ℕ, _/_}
-use mathlib.Core.List.{List, []}
+use Prim.Native.Nat.{ℕ}
+use mathlib.Core.List.{List}
 use lib.ListN.{length}
 use lib.Dec.{ltb}
 use Rattle.format.specs.Bytes.{ascii, zeros, most64}

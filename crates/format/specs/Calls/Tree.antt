@@ -1,5 +1,5 @@
 -- "Tree: file, summary, a chunk name, table. One entry per record read, in file order; the rest zero."
-use Prim.Native.Nat.{ℕ, _/_}
+use Prim.Native.Nat.{ℕ}
 use mathlib.Core.List.{List}
 use lib.ListN.{length}
 use Rattle.format.specs.Bytes.{over, zeros}

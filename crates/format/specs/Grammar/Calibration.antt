@@ -1,32 +1,72 @@
--- "The grammar": what calibration gives, as rules.
-use Prim.Native.Nat.{ℕ, _-_}
+-- "The grammar": the z step, and what calibration gives, as rules.
+use Prim.Native.Nat.{ℕ, _<_}
 use mathlib.Core.Path.{_≡_}
+use mathlib.Core.Bool.{true}
 use mathlib.Core.Option.{Option, none, some}
 use mathlib.Core.List.{List, [], _∷_}
-use lib.Ieee.{Float}
+use lib.IntN.{pos}
+use lib.Ieee.{Float, binary64, ofInt, ne, sub, div}
 use Rattle.format.specs.Bytes.{ascii}
-use Rattle.format.specs.declared.Range.{Range}
 use Rattle.format.specs.Map.{MapEntry}
-use Rattle.format.specs.Trees.{packedType}
-use Rattle.format.specs.Loops.{nothing}
-use Rattle.format.specs.Calibration.{stepAt, pixelSize, unstated, stated}
-use Rattle.format.specs.declared.Calibration.{Calibration}
-use Rattle.format.specs.declared.Entry.{Entry}
+use Rattle.format.specs.Values.{level}
+use Rattle.format.specs.Numbers.{zeroFloat, oneFloat, magnitude, narrow, positive}
+use Rattle.format.specs.Calibration.{zClass, keptZ, unstated}
 use Rattle.format.specs.Grammar.Map.{Named}
-use Rattle.format.specs.Grammar.Trees.{Tree, PackedTree}
-use Rattle.format.specs.Grammar.Loops.{levelsBelow}
+use Rattle.format.specs.Grammar.Trees.{Tree, Faulty}
+use Rattle.format.specs.Grammar.Values.{Field}
+use Rattle.format.specs.Grammar.Numbers.{Signed, Double}
+use Rattle.format.specs.Grammar.Loops.{Parameters, UiCount, Below}
+use Rattle.format.specs.Refusals as why
+use Rattle.format.specs.declared.Range.{Range}
+use Rattle.format.specs.declared.Entry.{Entry}
+use Rattle.format.specs.declared.Calibration.{Calibration}
 
--- the z step of the experiment levels `is`: the first that is found in tree order, below stopped loops too
-pub data Steps (s : List ℕ) (es : List Entry) : List ℕ → Option Float → Type 0 where
-  nowhere : Steps s es [] none
-  own : {i : ℕ} {is : List ℕ} {x : Float} → stepAt s es i ≡ some x → Steps s es (i ∷ is) (some x)
-  below : {i : ℕ} {is : List ℕ} {x : Float} → stepAt s es i ≡ none → Steps s es (levelsBelow s es i) (some x) → Steps s es (i ∷ is) (some x)
-  beside : {i : ℕ} {is : List ℕ} {z : Option Float} → stepAt s es i ≡ none → Steps s es (levelsBelow s es i) none → Steps s es is z → Steps s es (i ∷ is) z
+-- ---- the z step
 
--- What the calibration gives, with the step z in f32: a tree that is read whole states what it says, one that ends at a packed record
--- gives state 2, and a missing chunk or any other fault of chunk or tree states nothing.
+module _ (s : List ℕ) (es : List Entry) where
+  -- the level i is a Z loop's, of "eType 4", with the parameters p
+  pub record Focus (i p : ℕ) : Type 0 where
+    pub parameters : Parameters s es i p
+    pub kind : Signed s es i (ascii "eType") (pos 4)
+
+  -- "a dZStep not 0"
+  pub record StatedStep (p : ℕ) (x : Float) : Type 0 where
+    pub stated : Double s es p (ascii "dZStep") x
+    pub not-zero : ne x zeroFloat ≡ true
+
+  -- "without its sign; else, if uiCount exceeds 1, the distance from dZHigh to dZLow divided by count − 1 in f64, count rounded first"
+  pub data StepOf (i : ℕ) : Float → Type 0 where
+    stated : {p : ℕ} {x : Float} → Focus i p → StatedStep p x → StepOf i (magnitude x)
+    spanned : {p n : ℕ} {high low : Float} → Focus i p → ((x : Float) → StatedStep p x → ⊥) → UiCount s es p n → 1 < n
+        → Double s es p (ascii "dZHigh") high → Double s es p (ascii "dZLow") low
+        → StepOf i (div binary64 (magnitude (sub binary64 high low)) (sub binary64 (ofInt binary64 (pos n)) oneFloat))
+
+  abbrev pub NoStep : ℕ → Type 0
+  NoStep i = (x : Float) → StepOf i x → ⊥
+
+  -- the z step of the experiment levels `is`: "first found in tree order, below stopped loops too"
+  pub data Steps : List ℕ → Option Float → Type 0 where
+    nowhere : Steps [] none
+    own : {i : ℕ} {is : List ℕ} {x : Float} → StepOf i x → Steps (i ∷ is) (some x)
+    below : {i : ℕ} {is ks : List ℕ} {x : Float} → NoStep i → Below s es i ks → Steps ks (some x) → Steps (i ∷ is) (some x)
+    beside : {i : ℕ} {is ks : List ℕ} {z : Option Float} → NoStep i → Below s es i ks → Steps ks none → Steps is z → Steps (i ∷ is) z
+
+-- ---- the calibration
+
+-- "SLxCalibration, dCalibration above 0"
+pub record PixelSize (s : List ℕ) (es : List Entry) (x : Float) : Type 0 where
+  pub at-level : ℕ
+  pub level-there : Field s es 0 (ascii "SLxCalibration") (level at-level)
+  pub stated : Double s es at-level (ascii "dCalibration") x
+  pub above-0 : positive x ≡ true
+
+-- What calibration gives, with the step z in f32. "rounded to f32 nearest-even, is x and y alike (state 1)"; "A tree that ends in 8 gives state 2, the
+-- rest zero; without such a dCalibration, and on a missing chunk or any other fault of chunk or tree, 18 excepted, nothing is stated".
 pub data Calibrated (s m : List ℕ) (es : List MapEntry) (z : Option Float) : Calibration → Type 0 where
-  whole : {r : Range} {ts : List Entry} → Named s m es (ascii "ImageCalibrationLV|0!") r → Tree s r ts → Calibrated s m es z (stated (pixelSize s ts) z)
-  ends-packed : {r : Range} → Named s m es (ascii "ImageCalibrationLV|0!") r → PackedTree s r → Calibrated s m es z (unstated 2)
-  faulty : {r : Range} → Named s m es (ascii "ImageCalibrationLV|0!") r → (PackedTree s r → ⊥) → ((ts : List Entry) → Tree s r ts → ⊥) → Calibrated s m es z (unstated 0)
+  sized : {r : Range} {ts : List Entry} {x : Float} → Named s m es (ascii "ImageCalibrationLV|0!") r → Tree s r ts → PixelSize s ts x
+      → Calibrated s m es z (record { state = 1; size = narrow x; class = zClass z; z = keptZ (zClass z) z })
+  unsized : {r : Range} {ts : List Entry} → Named s m es (ascii "ImageCalibrationLV|0!") r → Tree s r ts → ((x : Float) → PixelSize s ts x → ⊥)
+      → Calibrated s m es z (unstated 0)
+  ends-packed : {r : Range} → Named s m es (ascii "ImageCalibrationLV|0!") r → Faulty s r why.packed → Calibrated s m es z (unstated 2)
+  faulty : {r : Range} {n : ℕ} → Named s m es (ascii "ImageCalibrationLV|0!") r → Faulty s r n → (n ≡ why.packed → ⊥) → Calibrated s m es z (unstated 0)
   missing : ((r : Range) → Named s m es (ascii "ImageCalibrationLV|0!") r → ⊥) → Calibrated s m es z (unstated 0)

@@ -1,13 +1,14 @@
 -- "The grammar": "By its bytes alone a file is joined to a summary".
-use Prim.Native.Nat.{ℕ, _-_, _≤_}
+use Prim.Native.Nat.{ℕ, _≤_}
 use mathlib.Core.Path.{_≡_}
-use mathlib.Core.Option.{Option, some}
+use mathlib.Core.Option.{Option}
 use mathlib.Core.List.{List, [], _∷_}
 use lib.Ieee.{Float}
-use Rattle.format.specs.Bytes.{part, ascii, most64}
+use Rattle.format.specs.Bytes.{ascii, most64}
+use Rattle.format.specs.Chunks.{dataIn}
 use Rattle.format.specs.declared.Range.{Range}
 use Rattle.format.specs.Map.{MapEntry}
-use Rattle.format.specs.Values.{level, field}
+use Rattle.format.specs.Values.{level}
 use Rattle.format.specs.declared.Attributes.{Attributes}
 use Rattle.format.specs.Attributes.{planeBytes}
 use Rattle.format.specs.Calibration.{zFloat}
@@ -18,32 +19,34 @@ use Rattle.format.specs.declared.Loop.{Loop}
 use Rattle.format.specs.declared.Summary.{Summary}
 use Rattle.format.specs.Grammar.Map.{Mapped, Named}
 use Rattle.format.specs.Grammar.Trees.{Tree}
+use Rattle.format.specs.Grammar.Values.{Field}
 use Rattle.format.specs.Grammar.Attributes.{AttributesOf}
 use Rattle.format.specs.Grammar.Loops.{LoopsOf}
 use Rattle.format.specs.Grammar.Calibration.{Steps, Calibrated}
 
--- a file's bytes are joined to a summary
+-- "when first mark, locator, map, both needed chunks and their trees are formed as above, within each limit; of 11 to 17 none holds; and the summary has just
+-- these sizes and bits, the map data's place and length, the appended loops in order and what Calibration gives"
 pub record Joined (s : List ℕ) (u : Summary) : Type 0 where
   pub map-place : Range
   pub map-entries : List MapEntry
   pub mapped : Mapped s map-place map-entries
   pub attributes-place : Range
-  pub attributes-named : Named s (part s (map-place .start) (map-place .len)) map-entries (ascii "ImageAttributesLV!") attributes-place
+  pub attributes-named : Named s (dataIn s map-place) map-entries (ascii "ImageAttributesLV!") attributes-place
   pub attributes-tree : List Entry
   pub attributes-formed : Tree s attributes-place attributes-tree
   pub attributes : Attributes
   pub attributes-of : AttributesOf s attributes-tree attributes
   pub experiment-place : Range
-  pub experiment-named : Named s (part s (map-place .start) (map-place .len)) map-entries (ascii "ImageMetadataLV!") experiment-place
+  pub experiment-named : Named s (dataIn s map-place) map-entries (ascii "ImageMetadataLV!") experiment-place
   pub experiment-tree : List Entry
   pub experiment-formed : Tree s experiment-place experiment-tree
   pub experiment-level : ℕ
-  pub experiment-there : field s experiment-tree 0 (ascii "SLxExperiment") ≡ some (level experiment-level)
+  pub experiment-there : Field s experiment-tree 0 (ascii "SLxExperiment") (level experiment-level)
   pub loops : List Loop
   pub loops-of : LoopsOf s experiment-tree experiment-level loops
   pub plane-most : planeBytes attributes ≤ most64
   pub step : Option Float
   pub step-found : Steps s experiment-tree (experiment-level ∷ []) step
   pub size : Calibration
-  pub calibrated : Calibrated s (part s (map-place .start) (map-place .len)) map-entries (zFloat step) size
+  pub calibrated : Calibrated s (dataIn s map-place) map-entries (zFloat step) size
   pub summary : u ≡ summaryOf map-place attributes loops size

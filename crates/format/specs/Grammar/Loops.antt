@@ -1,14 +1,22 @@
--- "The grammar": the loops, as rules.
-use Prim.Native.Nat.{ℕ, suc, _-_, _≤_, _<_, max}
+-- "The grammar": the loops, as rules. i is the number of an experiment level's entry, and p that of its parameters.
+use Prim.Native.Nat.{ℕ, suc, _≤_, _<_, max}
 use mathlib.Core.Path.{_≡_}
-use mathlib.Core.Option.{none}
+use mathlib.Core.Option.{none, some}
+use mathlib.Core.Logic.{_⊎_}
 use mathlib.Core.List.{List, [], _∷_, map, reverse}
+use lib.ListN.{take}
+use lib.IntN.{ℤ, pos}
 use Rattle.format.specs.Bytes.{ascii}
-use Rattle.format.specs.Values.{level, fieldIn}
-use Rattle.format.specs.Loops.{mostCount, nothing, loop, said, childLevels, Built, axisOf}
+use Rattle.format.specs.Values.{Value, level, list}
+use Rattle.format.specs.Numbers.{unsigned}
+use Rattle.format.specs.Loops.{mostCount, Built, axisOf}
+use Rattle.format.specs.Grammar.Values.{ValueOf, Field, LevelsIn, SizeOf}
+use Rattle.format.specs.Grammar.Numbers.{Unsigned, Signed}
 use Rattle.format.specs.declared.Entry.{Entry}
 use Rattle.format.specs.declared.Axis.{Axis}
 use Rattle.format.specs.declared.Loop.{Loop}
+
+-- ---- lists of loops
 
 -- no loop of these runs over the axis a
 pub data Free (a : Axis) : List Loop → Type 0 where
@@ -25,26 +33,101 @@ pub data Counted : List Loop → Type 0 where
   nil : Counted []
   cons : {l : Loop} {ls : List Loop} → 0 < l .count → l .count ≤ mostCount → Counted ls → Counted (l ∷ ls)
 
--- A loop of type t and count c at nesting n joins those appended before it, the last one first: it is appended below a smaller nesting;
--- at the same nesting and of the same type the larger count is kept; any other is dropped.
+-- ---- what one experiment level says
+
+module _ (s : List ℕ) (es : List Entry) where
+  -- "uLoopPars (a level, or a list of just one level)"
+  pub data Parameters (i : ℕ) : ℕ → Type 0 where
+    in-level : {p : ℕ} → Field s es (suc i) (ascii "uLoopPars") (level p) → Parameters i p
+    in-list : {j p : ℕ} → Field s es (suc i) (ascii "uLoopPars") (list (j ∷ [])) → ValueOf s es j (level p) → Parameters i p
+
+  -- "Counts are uiCount"; without one, 0
+  pub data UiCount (p : ℕ) : ℕ → Type 0 where
+    stated : {n : ℕ} → Unsigned s es p (ascii "uiCount") n → UiCount p n
+    unstated : ((n : ℕ) → Unsigned s es p (ascii "uiCount") n → ⊥) → UiCount p 0
+
+  -- pPlanes.uiCount
+  pub record PlanesCount (p n : ℕ) : Type 0 where
+    pub planes : ℕ
+    pub there : Field s es (suc p) (ascii "pPlanes") (level planes)
+    pub count : Unsigned s es planes (ascii "uiCount") n
+
+  -- "type 6 prefers pPlanes.uiCount"
+  pub data SpectralCount (p : ℕ) : ℕ → Type 0 where
+    preferred : {n : ℕ} → PlanesCount p n → SpectralCount p n
+    plain : {n : ℕ} → ((m : ℕ) → PlanesCount p m → ⊥) → UiCount p n → SpectralCount p n
+
+  -- Points has n "elements or entries"
+  pub record Points (p n : ℕ) : Type 0 where
+    pub value : Value
+    pub there : Field s es (suc p) (ascii "Points") value
+    pub size : SizeOf s es value n
+
+  -- how many of these entries have an "unsigned reading [that] is there and not 0"
+  pub data Valid : List ℕ → ℕ → Type 0 where
+    no-more : Valid [] 0
+    set : {i m n : ℕ} {v : Value} {is : List ℕ} → ValueOf s es i v → unsigned v ≡ some (suc m) → Valid is n → Valid (i ∷ is) (suc n)
+    unset : {i n : ℕ} {v : Value} {is : List ℕ} → ValueOf s es i v → (unsigned v ≡ none) ⊎ (unsigned v ≡ some 0) → Valid is n → Valid (i ∷ is) n
+
+  -- "type 2 counts elements or entries of Points, or with a list pItemValid (beside uLoopPars) those of its first that many whose unsigned reading
+  -- is there and not 0; with no points, uiCount alone"
+  pub data PointCount (i p : ℕ) : ℕ → Type 0 where
+    no-points : {n : ℕ} → ((m : ℕ) → Points p (suc m) → ⊥) → UiCount p n → PointCount i p n
+    all-points : {m : ℕ} → Points p (suc m) → ((l : List ℕ) → Field s es (suc i) (ascii "pItemValid") (list l) → ⊥) → PointCount i p (suc m)
+    valid-points : {m n : ℕ} {l : List ℕ} → Points p (suc m) → Field s es (suc i) (ascii "pItemValid") (list l) → Valid (take (suc m) l) n
+        → PointCount i p n
+
+  -- the count of a loop of type t: "Types 1 and 8 are T, 2 P, 4 Z, 6 spectral (never appended), 7 custom"; no other type has one
+  pub data Count (i p : ℕ) : ℕ → ℕ → Type 0 where
+    of-time : {n : ℕ} → UiCount p n → Count i p 1 n
+    of-points : {n : ℕ} → PointCount i p n → Count i p 2 n
+    of-focus : {n : ℕ} → UiCount p n → Count i p 4 n
+    of-spectral : {n : ℕ} → SpectralCount p n → Count i p 6 n
+    of-custom : {n : ℕ} → UiCount p n → Count i p 7 n
+    of-time-uneven : {n : ℕ} → UiCount p n → Count i p 8 n
+
+  -- "No uLoopPars .., eType 0, absent or over 10, or a count of 0: stop here, children too."
+  pub data Stops (i : ℕ) : Type 0 where
+    no-parameters : ((p : ℕ) → Parameters i p → ⊥) → Stops i
+    no-type : ((t : ℤ) → Signed s es i (ascii "eType") t → ⊥) → Stops i
+    type-0 : Signed s es i (ascii "eType") (pos 0) → Stops i
+    type-over : {t : ℕ} → Signed s es i (ascii "eType") (pos t) → 10 < t → Stops i
+    count-0 : {p t : ℕ} → Parameters i p → Signed s es i (ascii "eType") (pos t) → Count i p t 0 → Stops i
+
+  -- a loop of type t and count c: none of 15 and 16 in the walk
+  pub record LoopAt (i t c : ℕ) : Type 0 where
+    pub parameters : ℕ
+    pub there : Parameters i parameters
+    pub kind : Signed s es i (ascii "eType") (pos t)
+    pub count : Count i parameters t c
+    pub count-some : 0 < c
+    pub count-most : c ≤ mostCount
+
+  -- "Elements or entries of ppNextLevelEx that are levels"
+  pub data Below (i : ℕ) : List ℕ → Type 0 where
+    levels : {v : Value} {is : List ℕ} → Field s es (suc i) (ascii "ppNextLevelEx") v → LevelsIn s es v is → Below i is
+    no-levels : ((v : Value) → Field s es (suc i) (ascii "ppNextLevelEx") v → ⊥) → Below i []
+
+-- ---- the walk
+
+-- A loop of type t and count c at nesting n joins those appended before it, the last one first: "Append if the last appended nesting is smaller or
+-- there is none; else, if nesting and type match, keep the larger count; else drop."
 pub data Appended (t c n : ℕ) : List Built → List Built → Type 0 where
   first : Appended t c n [] (record { kind = t; count = c; nesting = n } ∷ [])
   deeper : {b : Built} {bs : List Built} → b .nesting < n → Appended t c n (b ∷ bs) (record { kind = t; count = c; nesting = n } ∷ b ∷ bs)
-  larger : {b : Built} {bs : List Built} → b .nesting ≡ n → b .kind ≡ t → Appended t c n (b ∷ bs) (record { kind = t; count = max (b .count) c; nesting = n } ∷ bs)
+  larger : {b : Built} {bs : List Built} → b .nesting ≡ n → b .kind ≡ t
+      → Appended t c n (b ∷ bs) (record { kind = t; count = max (b .count) c; nesting = n } ∷ bs)
   dropped : {b : Built} {bs : List Built} → n ≤ b .nesting → (b .nesting ≡ n → b .kind ≡ t → ⊥) → Appended t c n (b ∷ bs) (b ∷ bs)
 
--- the levels below the experiment level i
-abbrev pub levelsBelow : List ℕ → List Entry → ℕ → List ℕ
-levelsBelow s es i = childLevels s es (fieldIn s es i (ascii "ppNextLevelEx"))
-
--- The experiment levels `is` at nesting n make the loops bs into bs′. A level that says no loop stops there, its levels below too.
+-- The experiment levels `is` at nesting n make the loops bs into bs′. A level that stops says nothing, its levels below too; a spectral one is
+-- never appended; the levels below any other "go one deeper, under spectral at the same nesting".
 pub data Walks (s : List ℕ) (es : List Entry) : List ℕ → ℕ → List Built → List Built → Type 0 where
   done : {n : ℕ} {bs : List Built} → Walks s es [] n bs bs
-  stops : {i n : ℕ} {is : List ℕ} {bs bs′ : List Built} → said s es i ≡ nothing → Walks s es is n bs bs′ → Walks s es (i ∷ is) n bs bs′
-  spectral : {i n c : ℕ} {is : List ℕ} {bs bs₁ bs₂ : List Built} → said s es i ≡ loop 6 c
-      → Walks s es (levelsBelow s es i) n bs bs₁ → Walks s es is n bs₁ bs₂ → Walks s es (i ∷ is) n bs bs₂
-  appends : {i n t c : ℕ} {is : List ℕ} {bs bs₁ bs₂ bs₃ : List Built} → said s es i ≡ loop t c → (t ≡ 6 → ⊥) → Appended t c n bs bs₁
-      → Walks s es (levelsBelow s es i) (suc n) bs₁ bs₂ → Walks s es is n bs₂ bs₃ → Walks s es (i ∷ is) n bs bs₃
+  stops : {i n : ℕ} {is : List ℕ} {bs bs′ : List Built} → Stops s es i → Walks s es is n bs bs′ → Walks s es (i ∷ is) n bs bs′
+  spectral : {i n c : ℕ} {is ks : List ℕ} {bs bs₁ bs₂ : List Built} → LoopAt s es i 6 c → Below s es i ks → Walks s es ks n bs bs₁
+      → Walks s es is n bs₁ bs₂ → Walks s es (i ∷ is) n bs bs₂
+  appends : {i n t c : ℕ} {is ks : List ℕ} {bs bs₁ bs₂ bs₃ : List Built} → LoopAt s es i t c → (t ≡ 6 → ⊥) → Appended t c n bs bs₁
+      → Below s es i ks → Walks s es ks (suc n) bs₁ bs₂ → Walks s es is n bs₂ bs₃ → Walks s es (i ∷ is) n bs bs₃
 
 abbrev pub loopOf : Built → Loop
 loopOf b = record { axis = axisOf (b .kind); count = b .count }
@@ -54,7 +137,7 @@ pub data Supported : List Built → Type 0 where
   nil : Supported []
   cons : {b : Built} {bs : List Built} → (b .kind ≡ 7 → ⊥) → Supported bs → Supported (b ∷ bs)
 
--- the experiment's loops, outermost first: none of 11, 15, 16, 17
+-- the loops of the experiment level i, outermost first: none of 15, 16, 17
 pub record LoopsOf (s : List ℕ) (es : List Entry) (i : ℕ) (ls : List Loop) : Type 0 where
   pub built : List Built
   pub walked : Walks s es (i ∷ []) 0 [] built

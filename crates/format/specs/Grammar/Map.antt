@@ -1,11 +1,11 @@
 -- "The grammar": the map, as rules.
 use Prim.Native.Nat.{ℕ, suc, _+_, _-_, _≤_, _<_}
 use mathlib.Core.Path.{_≡_}
-use mathlib.Core.List.{List, [], _∷_, map}
+use mathlib.Core.List.{List, [], _∷_}
 use lib.ListN.{length, getD}
 use Rattle.format.specs.Bytes.{le, part}
 use Rattle.format.specs.declared.Range.{Range}
-use Rattle.format.specs.Chunks.{chunkMark}
+use Rattle.format.specs.Chunks.{chunkMark, dataIn}
 use Rattle.format.specs.Map.{MapEntry, endMark, mapName, mostEntries}
 use Rattle.format.specs.Grammar.Chunks.{Chunk}
 
@@ -42,7 +42,7 @@ pub record Mapped (s : List ℕ) (r : Range) (es : List MapEntry) : Type 0 where
   pub locator-within : 40 ≤ length s
   pub locator : part s (length s - 40) 32 ≡ endMark
   pub map-chunk : Chunk mapName s (le 8 s (length s - 8)) r
-  pub map-of : MapOf (part s (r .start) (r .len)) es
+  pub map-of : MapOf (dataIn s r) es
 
 -- the map m has a chunk under this name, whose data is r
 pub record Named (s m : List ℕ) (es : List MapEntry) (name : List ℕ) (r : Range) : Type 0 where

@@ -3,10 +3,11 @@ use Prim.Native.Nat.{ℕ, suc, _+_, _-_, _*_, _≤_, _<_}
 use mathlib.Core.Path.{_≡_}
 use mathlib.Core.List.{List, [], _∷_, _++_}
 use lib.ListN.{length, getD}
-use Rattle.format.specs.Bytes.{le, part}
+use Rattle.format.specs.Bytes.{le}
+use Rattle.format.specs.Refusals as why
+use Rattle.format.specs.Chunks.{dataIn}
 use Rattle.format.specs.declared.Range.{Range}
 use Rattle.format.specs.Trees.{entryOf, mostItems, mostDepth, packedType}
-use Rattle.format.specs.Values.{level}
 use Rattle.format.specs.declared.Entry.{Entry}
 
 -- where the value of the record at i begins: behind its type, its name's length and its name
@@ -78,30 +79,64 @@ pub data Records (d : List ℕ) (base : ℕ) : ℕ → ℕ → ℕ → ℕ → �
       → Records d base (suc left) parent count (used + suc (length ks)) (levelTo d i) e es q
       → Records d base (suc left) parent (suc count) used i e (entryOf d base parent i (kidsFrom d i) (kidsTo d i - kidsFrom d i) ∷ ks ++ es) q
 
--- the same, where a packed record is reached before any other fault
-pub data Reaches (d : List ℕ) (base : ℕ) : ℕ → ℕ → ℕ → ℕ → ℕ → ℕ → Type 0 where
-  here : {left parent count used i e : ℕ} → i + 2 ≤ e → getD d i 0 ≡ packedType → Reaches d base left parent (suc count) used i e
-  behind-plain : {left parent count used i e k from len p : ℕ}
-      → Head d i e k → Plain d e (valueStart d i) k from len p
-      → Reaches d base left parent count (used + 1) p e
-      → Reaches d base left parent (suc count) used i e
-  behind-level : {left parent count used i e p : ℕ} {ks : List Entry}
-      → Level d i e
-      → Records d base left (suc used) (countAt d i) (suc used) (kidsFrom d i) (kidsTo d i) ks p
-      → levelTo d i ≤ e
-      → Reaches d base (suc left) parent count (used + suc (length ks)) (levelTo d i) e
-      → Reaches d base (suc left) parent (suc count) used i e
-  inside : {left parent count used i e : ℕ}
-      → Level d i e
-      → Reaches d base left (suc used) (countAt d i) (suc used) (kidsFrom d i) (kidsTo d i)
-      → Reaches d base (suc left) parent (suc count) used i e
-
 -- bool, i32, u32, i64, u64, f64, pointer, text, bytes, level
 pub data Kind : ℕ → Type 0 where
   of-value : {k : ℕ} → 1 ≤ k → k ≤ 9 → Kind k
   of-level : Kind 11
 
--- the same, where the type and the name of n records pass, at every depth, before the end or a fault
+-- a type that is not judged before the name
+pub record Judged (k : ℕ) : Type 0 where
+  pub not-packed : k ≡ packedType → ⊥
+  pub not-0 : k ≡ 0 → ⊥
+  pub not-10 : k ≡ 10 → ⊥
+
+-- ---- faults
+
+-- What is wrong with the record that begins at i, in a level that ends at e, with n the refusal's number; `left` is how many levels may stand here one in
+-- another. "Packed, 0 and 10 are judged before the name, other unknown types after it, .. then the value. In a level: 10 for items, 10 for length, 6,
+-- depth".
+pub data Wrong (d : List ℕ) (i e : ℕ) : ℕ → ℕ → Type 0 where
+  packed-type : {left : ℕ} → getD d i 0 ≡ packedType → Wrong d i e left why.packed
+  type-0 : {left : ℕ} → getD d i 0 ≡ 0 → Wrong d i e left why.kind
+  type-10 : {left : ℕ} → getD d i 0 ≡ 10 → Wrong d i e left why.kind
+  name-cut : {left : ℕ} → Judged (getD d i 0) → e < valueStart d i → Wrong d i e left why.cut
+  unknown : {left k : ℕ} → Head d i e k → Judged k → (Kind k → ⊥) → Wrong d i e left why.kind
+  number-cut : {left k n : ℕ} → Head d i e k → Fixed k n → e < valueStart d i + n → Wrong d i e left why.cut
+  bytes-cut : {left : ℕ} → Head d i e 9 → e < valueStart d i + 8 + le 8 d (valueStart d i) → Wrong d i e left why.cut
+  count-cut : {left : ℕ} → Head d i e 11 → e < valueStart d i + 4 → Wrong d i e left why.cut
+  items-over : {left : ℕ} → Head d i e 11 → valueStart d i + 4 ≤ e → mostItems < countAt d i → Wrong d i e left why.level
+  length-cut : {left : ℕ} → Head d i e 11 → valueStart d i + 4 ≤ e → countAt d i ≤ mostItems → e < kidsFrom d i → Wrong d i e left why.cut
+  length-under : {left : ℕ} → Head d i e 11 → kidsFrom d i ≤ e → countAt d i ≤ mostItems → kidsTo d i < kidsFrom d i → Wrong d i e left why.level
+  kids-cut : {left : ℕ} → Head d i e 11 → kidsFrom d i ≤ e → countAt d i ≤ mostItems → kidsFrom d i ≤ kidsTo d i → e < kidsTo d i → Wrong d i e left why.cut
+  too-deep : Level d i e → Wrong d i e 0 why.deep
+
+-- `Faults d base left parent count used i e n`: among at most `count` records from i on, the first fault has the number n. The other arguments are those of
+-- `Records`.
+pub data Faults (d : List ℕ) (base : ℕ) : ℕ → ℕ → ℕ → ℕ → ℕ → ℕ → ℕ → Type 0 where
+  here : {left parent count used i e n : ℕ} → i + 2 ≤ e → Wrong d i e left n → Faults d base left parent (suc count) used i e n
+  behind-plain : {left parent count used i e k from len p n : ℕ}
+      → Head d i e k → Plain d e (valueStart d i) k from len p
+      → Faults d base left parent count (used + 1) p e n
+      → Faults d base left parent (suc count) used i e n
+  behind-level : {left parent count used i e p n : ℕ} {ks : List Entry}
+      → Level d i e
+      → Records d base left (suc used) (countAt d i) (suc used) (kidsFrom d i) (kidsTo d i) ks p
+      → levelTo d i ≤ e
+      → Faults d base (suc left) parent count (used + suc (length ks)) (levelTo d i) e n
+      → Faults d base (suc left) parent (suc count) used i e n
+  inside : {left parent count used i e n : ℕ}
+      → Level d i e
+      → Faults d base left (suc used) (countAt d i) (suc used) (kidsFrom d i) (kidsTo d i) n
+      → Faults d base (suc left) parent (suc count) used i e n
+  skip-cut : {left parent count used i e p : ℕ} {ks : List Entry}
+      → Level d i e
+      → Records d base left (suc used) (countAt d i) (suc used) (kidsFrom d i) (kidsTo d i) ks p
+      → e < levelTo d i
+      → Faults d base (suc left) parent (suc count) used i e why.cut
+
+-- ---- the table
+
+-- `Passes d base left parent count used i e n`: the type and the name of n records pass, at every depth, before the end or a fault
 pub data Passes (d : List ℕ) (base : ℕ) : ℕ → ℕ → ℕ → ℕ → ℕ → ℕ → ℕ → Type 0 where
   none-yet : {left parent count used i e : ℕ} → Passes d base left parent count used i e 0
   this : {left parent count used i e k : ℕ} → Head d i e k → Kind k → Passes d base left parent (suc count) used i e 1
@@ -123,12 +158,12 @@ pub data Passes (d : List ℕ) (base : ℕ) : ℕ → ℕ → ℕ → ℕ → �
 -- the part r of s is a tree with these entries: one record at depth 0
 pub record Tree (s : List ℕ) (r : Range) (es : List Entry) : Type 0 where
   pub place-after : ℕ
-  pub record-at-0 : Records (part s (r .start) (r .len)) (r .start) mostDepth 0 1 0 0 (length (part s (r .start) (r .len))) es place-after
+  pub record-at-0 : Records (dataIn s r) (r .start) mostDepth 0 1 0 0 (length (dataIn s r)) es place-after
 
--- the tree in the part r of s ends at a packed record
-abbrev pub PackedTree : List ℕ → Range → Type 0
-PackedTree s r = Reaches (part s (r .start) (r .len)) (r .start) mostDepth 0 1 0 0 (length (part s (r .start) (r .len)))
+-- the first fault of the tree in the part r of s has the number n
+abbrev pub Faulty : List ℕ → Range → ℕ → Type 0
+Faulty s r n = Faults (dataIn s r) (r .start) mostDepth 0 1 0 0 (length (dataIn s r)) n
 
 -- the type and the name of n records of the tree in the part r of s pass, before its end or first fault
 abbrev pub PassedIn : List ℕ → Range → ℕ → Type 0
-PassedIn s r n = Passes (part s (r .start) (r .len)) (r .start) mostDepth 0 1 0 0 (length (part s (r .start) (r .len))) n
+PassedIn s r n = Passes (dataIn s r) (r .start) mostDepth 0 1 0 0 (length (dataIn s r)) n

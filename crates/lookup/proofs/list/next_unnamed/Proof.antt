@@ -27,7 +27,7 @@ unfolding found
 returns c =
     let v = c .before .before .before .loop .inv in
     let h = rw (c .before .entry-at .ensures) at (c .if1 .taken) in
-    (sym (ap headOf (v .1 ∙ kids-none _ _ _ _ (omega arith) (λ k a b. c .before .before .before .before .before .pre .0 .order .nested _ _ k (v .0) a b h))), tt)
+    (sym (ap headOf (v .1 ∙ kids-none _ _ _ _ (λ k a b. c .before .before .before .before .before .pre .0 .order .nested _ _ k (v .0) a b h))), tt)
 
 returns-2 : tie.Need-returns-2 Inv-loop μ-loop
 unfolding found
@@ -46,11 +46,13 @@ loop-again : tie.Need-loop-again Inv-loop μ-loop
 loop-again c =
     let e = c .before .before .entry-at in
     let l = c .before .before .before .loop-test .taken in
-    let v = c .before .before .before .before .loop .inv in
-    (omega arith, v .1 ∙ ⊎-elim
-    (λ w. kid-named (entryIn _) _ _ _ (e .result) (e .ensures) l (w .2 .left))
-    (λ w. kid-other (entryIn _) _ _ _ (e .result) (e .ensures) l (w .left))
-    (c .if2 .came))
+    let v = c .before .before .before .before .loop .inv in (
+      omega arith,
+      v .1 ∙ ⊎-elim
+          (λ w. kid-named (entryIn _) _ _ _ (e .result) (e .ensures) l (w .2 .left))
+          (λ w. kid-other (entryIn _) _ _ _ (e .result) (e .ensures) l (w .left))
+          (c .if2 .came),
+    )
 
 returns-3 : tie.Need-returns-3 Inv-loop μ-loop
 unfolding found

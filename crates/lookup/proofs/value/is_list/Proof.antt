@@ -43,11 +43,14 @@ loop-less c = search needs
 loop-again : tie.Need-loop-again Inv-loop μ-loop
 loop-again c =
     let e = c .before .before .entry-at .ensures in
-    let v = c .before .before .before .before .loop .inv in
-    (omega arith, omega arith, λ s. ⊎-elim
-    (λ w. rw (w .3) (plain-more s _ _ _ _ (v .2 s) (ap (λ (x : Entry). x .parent) (sym e) ∙ w .0 .taken) (ap (λ (x : Entry). x .units) (sym e) ∙ w .2 .left)))
-    (λ w. rw (w .1) (plain-other s _ _ _ _ (v .2 s) (λ z. w .0 .left (ap (λ (x : Entry). x .parent) e ∙ z))))
-    (c .if2 .came))
+    let v = c .before .before .before .before .loop .inv in (
+      omega arith,
+      omega arith,
+      λ s. ⊎-elim
+          (λ w. rw (w .3) (plain-more s _ _ _ _ (v .2 s) (ap (λ (x : Entry). x .parent) (sym e) ∙ w .0 .taken) (ap (λ (x : Entry). x .units) (sym e) ∙ w .2 .left)))
+          (λ w. rw (w .1) (plain-other s _ _ _ _ (v .2 s) (λ z. w .0 .left (ap (λ (x : Entry). x .parent) e ∙ z))))
+          (c .if2 .came),
+    )
 
 returns-3 : tie.Need-returns-3 Inv-loop μ-loop
 returns-3 c =

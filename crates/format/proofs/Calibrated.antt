@@ -1,0 +1,128 @@
+-- What the grammar says of the calibration is what opening makes of it. Assumes nothing.
+use Prim.Native.Nat.{ℕ, _≤_}
+use mathlib.Core.Path.{_≡_, refl, sym, ap, _∙_, subst}
+use mathlib.Core.Bool.{Bool, true, false, cond}
+use mathlib.Core.Option.{Option, none, some}
+use mathlib.Core.List.{List}
+use native.Mathlib.Omega.{arith}
+use lib.Dec.{eqb, leb}
+use lib.ListN.{length, take}
+use lib.Ieee.{Float}
+use borrow.Author.Tests.{leb-true, eqb-true, eqb-false, ne-eqb}
+use Rattle.format.proofs.Answers.{refused≢given, none≢some, given-inj, Numbered, refusal}
+use Rattle.format.proofs.Trees.{tree-read, fault-read, read-fault}
+use Rattle.format.proofs.Rules.{States, no-such, none-of, bind-some, some-bind, cond-some}
+use Rattle.format.proofs.Means.{Means}
+use Rattle.format.proofs.Fields.{level-at, double-in}
+use Rattle.format.proofs.Named.{Missing, no-entry, no-chunk, named-read, read-named, named-numbered, named-unique, given-tree, refused-tree, refused-chunk, tree-means}
+use Rattle.format.proofs.Suffices.{fault-low}
+use Rattle.format.specs.Answer.{Answer, refused, given, andThen}
+use Rattle.format.specs.Refusals as why
+use Rattle.format.specs.Bytes.{ascii}
+use Rattle.format.specs.declared.Range.{Range}
+use Rattle.format.specs.Map.{MapEntry, namedChunk}
+use Rattle.format.specs.Trees.{Stop, at, fault, treeIn, within, wholeTree as wholeTree, treeEntries, namedTree}
+use Rattle.format.specs.Values.{field, fieldIn, asLevel, bind}
+use Rattle.format.specs.Numbers.{float, positive}
+use Rattle.format.specs.Calibration.{aboveZero, pixelSize, unstated, stated, calibrationBy, calibration}
+use Rattle.format.specs.declared.Calibration.{Calibration}
+use Rattle.format.specs.Grammar.Map.{Named}
+use Rattle.format.specs.Grammar.Trees.{Tree}
+use Rattle.format.specs.Grammar.Calibration.{PixelSize, Calibrated, sized, unsized, ends-packed, faulty, missing}
+use Rattle.format.specs.declared.Entry.{Entry}
+
+-- ---- the pixel size
+
+module _ (s : List ℕ) (es : List Entry) (M : Means s es) where
+  pub pixel-in : States (pixelSize s es) (PixelSize s es)
+  unfolding pixelSize ascii
+  pixel-in =
+      record {
+        holds = λ x e.
+            let (q, h) = above _ x e in
+            let (i, e₁, e₂) = bind-some (asLevel (field s es 0 (ascii "SLxCalibration"))) (λ i. bind (fieldIn s es i (ascii "dCalibration")) float) x q in
+            record { at-level = i; level-there = level-at s es M 0 .holds i e₁; stated = double-in s es M i .holds x e₂; above-0 = h };
+        only = λ x z. some-above _ x (some-bind _ _ (z .at-level) x (level-at s es M 0 .only (z .at-level) (z .level-there)) (double-in s es M (z .at-level) .only x (z .stated))) (z .above-0);
+      }
+    where
+      above : (o : Option Float) (x : Float) → aboveZero o ≡ some x → (o ≡ some x) × (positive x ≡ true)
+      above none x e = absurd (none≢some e)
+      above (some y) x e = let (q, z) = cond-some (positive y) y x e in (ap some z, rw (← z) q)
+
+      some-above : (o : Option Float) (x : Float) → o ≡ some x → positive x ≡ true → aboveZero o ≡ some x
+      some-above o x q h = rw (q, h) refl
+
+-- ---- what calibration gives
+
+module _ (s m : List ℕ) (es : List MapEntry) (room : ℕ) (z : Option Float) where
+  abbrev name : List ℕ
+  name = ascii "ImageCalibrationLV|0!"
+
+  -- what opening makes of a tree of the calibration
+  size-tree : (r : Range) (size : Calibration) → Named s m es name r → calibrationBy s z (treeEntries (within room (treeIn s r))) ≡ given size
+      → Calibrated s m es z size × (length (treeIn s r .entries) ≤ room)
+  unfolding calibrationBy within wholeTree
+  size-tree r size x e = go (leb (length (treeIn s r .entries)) room) refl e
+    where
+      pixel : (ts : List Entry) → Tree s r ts → (o : Option Float) → pixelSize s ts ≡ o → Calibrated s m es z (stated o z)
+      pixel ts y none q = unsized x y (no-such _ (pixel-in s ts (tree-means s r ts y)) q)
+      pixel ts y (some c) q = sized x y (pixel-in s ts (tree-means s r ts y) .holds c q)
+
+      number : (n : ℕ) → treeIn s r .stop ≡ fault n → (b : Bool) → eqb n why.packed ≡ b → Calibrated s m es z (unstated (cond b 2 0))
+      number n q true h = ends-packed x (rw (eqb-true n why.packed h) at (fault-read s r n q))
+      number n q false h = faulty x (fault-read s r n q) (eqb-false n why.packed h)
+
+      end : (t : Stop) → treeIn s r .stop ≡ t → calibrationBy s z (wholeTree t (treeIn s r .entries)) ≡ given size → Calibrated s m es z size
+      end (at p) q e = subst (Calibrated s m es z) (given-inj e) (pixel (treeIn s r .entries) (tree-read s r p q) _ refl)
+      end (fault n) q e =
+          let low = fault-low s r n q in
+          let e₂ : cond (eqb n why.table) (refused why.table) (given (unstated (cond (eqb n why.packed) 2 0))) ≡ given size = e in
+          subst (Calibrated s m es z) (given-inj (rw (ne-eqb n why.table (λ z. omega arith)) at e₂)) (number n q (eqb n why.packed) refl)
+
+      go : (b : Bool) → leb (length (treeIn s r .entries)) room ≡ b
+          → calibrationBy s z (treeEntries (cond b (treeIn s r) (record { entries = take room (treeIn s r .entries); stop = fault why.table }))) ≡ given size
+          → Calibrated s m es z size × (length (treeIn s r .entries) ≤ room)
+      go true q e = (end (treeIn s r .stop) refl e, leb-true _ _ q)
+      go false q e = absurd (refused≢given e)
+
+  pub calibration-read : (size : Calibration) → calibration s m es room z ≡ given size
+      → Calibrated s m es z size × ((r : Range) → Named s m es name r → length (treeIn s r .entries) ≤ room)
+  unfolding calibration namedTree andThen calibrationBy
+  calibration-read size e = go (namedChunk s m es name) refl (named-numbered s m es name) e
+    where
+      go : (x : Answer Range) → namedChunk s m es name ≡ x → Numbered Missing x
+          → calibrationBy s z (andThen x λ r. treeEntries (within room (treeIn s r))) ≡ given size
+          → Calibrated s m es z size × ((r : Range) → Named s m es name r → length (treeIn s r .entries) ≤ room)
+      go (refused n) q (refusal h) e = (number n h e, λ r x. absurd (no-chunk-there r x))
+        where
+          no-chunk-there : (r : Range) → Named s m es name r → ⊥
+          no-chunk-there r x = refused≢given (sym q ∙ read-named s m es name r x)
+
+          number : (n : ℕ) → Missing n → calibrationBy s z (refused n) ≡ given size → Calibrated s m es z size
+          number n no-entry e = subst (Calibrated s m es z) (given-inj e) (missing no-chunk-there)
+          number n no-chunk e = subst (Calibrated s m es z) (given-inj e) (missing no-chunk-there)
+      go (given r) q h e =
+          let x = named-read s m es name r q in
+          let (c, l) = size-tree r size x e in
+          (c, λ p y. rw (named-unique s m es name p r y x) l)
+
+  -- and the other way round
+  pub read-calibration : (size : Calibration) → Calibrated s m es z size → ((r : Range) → Named s m es name r → length (treeIn s r .entries) ≤ room)
+      → calibration s m es room z ≡ given size
+  unfolding calibration
+  read-calibration size (sized {r = r} {ts = ts} {x = c} x y p) fit =
+      rw (given-tree s m es name room ts r x y (fit r x), pixel-in s ts (tree-means s r ts y) .only c p) refl
+  read-calibration size (unsized {r = r} {ts = ts} x y n) fit =
+      rw (given-tree s m es name room ts r x y (fit r x), none-of _ (pixel-in s ts (tree-means s r ts y)) n) refl
+  read-calibration size (ends-packed {r = r} x y) fit =
+      rw (refused-tree s m es name room why.packed r x (read-fault s r why.packed y) (fit r x)) refl
+  read-calibration size (faulty {r = r} {n = n} x y h) fit =
+      let q = read-fault s r n y in
+      let low = fault-low s r n q in
+      rw (refused-tree s m es name room n r x q (fit r x), ne-eqb n why.table (λ e. omega arith), ne-eqb n why.packed h) refl
+  read-calibration size (missing f) fit = go (namedChunk s m es name) refl (named-numbered s m es name)
+    where
+      go : (x : Answer Range) → namedChunk s m es name ≡ x → Numbered Missing x → calibrationBy s z (namedTree s m es room name) ≡ given (unstated 0)
+      go (given r) q h = absurd (f r (named-read s m es name r q))
+      go (refused n) q (refusal no-entry) = rw (refused-chunk s m es name room why.missing q) refl
+      go (refused n) q (refusal no-chunk) = rw (refused-chunk s m es name room why.chunk q) refl

@@ -1,0 +1,104 @@
+-- The first and the third demand hold of the definitions. Assumes nothing.
+use Prim.Native.Nat.{ℕ}
+use mathlib.Core.Path.{_≡_, refl}
+use mathlib.Core.Logic.{_↔_}
+use mathlib.Core.List.{List}
+use native.Mathlib.Omega.{arith}
+use lib.ListN.{length}
+use Rattle.format.specs.Answer.{Answer, given, refused, numberOf}
+use Rattle.format.specs.Trees.{roomIn}
+use Rattle.format.specs.Summary.{loopsOf, zeroSummary}
+use Rattle.format.specs.Calls.Open.{opened, openCall, summaryIn}
+use Rattle.format.specs.Calls.Border.{borderCall, planeAfter}
+use Rattle.format.specs.Grammar.File.{Joined}
+use Rattle.format.specs.Grammar.Table.{Enough}
+use Rattle.format.specs.Demands.{Refuses, FirstDemand, ThirdDemand}
+use Rattle.format.specs.declared.Summary.{Summary}
+use Rattle.format.proofs.Answers.{Numbered, NotZero, refusal}
+use Rattle.format.proofs.Files.{joined-unique, opened-iff-joined}
+use Rattle.format.proofs.Nonzero.{opened-some}
+use Rattle.format.proofs.Sounds.{joined-sound}
+use Rattle.format.proofs.Frames.{seq-different}
+use Rattle.format.proofs.Names.{frame-number-unique}
+use Rattle.format.proofs.Triples.{seq-below}
+use Rattle.format.proofs.Planes.{plane-sample, plane-refused, plane-number, plane-accepted}
+use Rattle.format.proofs.TreeCalls.{tree-table, tree-refused, tree-number}
+use Rattle.format.proofs.ChannelCalls.{channels-table, channels-refused, channels-number}
+use Rattle.format.proofs.Registers.{register-frames, register-refused, register-number}
+use Rattle.format.proofs.Suffices.{suffices}
+use Rattle.format.proofs.Trees.{read-passed}
+
+-- ---- opening
+
+module _ (file : List ℕ) (room : ℕ) where
+  -- a number of 0 comes with a summary
+  opened-given : numberOf (opened file room) ≡ 0 → opened file room ≡ given (summaryIn (opened file room))
+  unfolding numberOf summaryIn
+  opened-given e = go (opened file room) (opened-some file room) e
+    where
+      go : (x : Answer Summary) → Numbered NotZero x → numberOf x ≡ 0 → x ≡ given (summaryIn x)
+      go (refused n) (refusal h) e = absurd (omega arith)
+      go (given u) h e = refl
+
+  refused-zero : Refuses (numberOf (opened file room)) → summaryIn (opened file room) ≡ zeroSummary
+  unfolding numberOf summaryIn
+  refused-zero f = go (opened file room) f
+    where
+      go : (x : Answer Summary) → Refuses (numberOf x) → summaryIn x ≡ zeroSummary
+      go (refused n) f = refl
+      go (given u) f = absurd (f refl)
+
+  theirs : numberOf (opened file room) ≡ 0 → Joined file (summaryIn (opened file room)) × Enough file room
+  theirs e = opened-iff-joined file room (summaryIn (opened file room)) .0 (opened-given e)
+
+  exactly : (numberOf (opened file room) ≡ 0) ↔ ((u : Summary) × Joined file u × Enough file room)
+  unfolding numberOf
+  exactly = (λ e. let (j, f) = theirs e in (summaryIn (opened file room), j, f), back)
+    where
+      back : ((u : Summary) × Joined file u × Enough file room) → numberOf (opened file room) ≡ 0
+      back (u, j, f) = rw (opened-iff-joined file room u .1 (j, f)) refl
+
+-- ---- the border
+
+border-kept : (file : List ℕ) (scene t c z : ℕ) (samples : List ℕ) (x : Answer Summary)
+    → Refuses (planeAfter file scene t c z samples x .number) → planeAfter file scene t c z samples x .buffer ≡ samples
+unfolding planeAfter
+border-kept file scene t c z samples (refused n) f = refl
+border-kept file scene t c z samples (given u) f = plane-refused file u scene t c z samples f
+
+pub first : FirstDemand
+unfolding openCall borderCall
+first = record {
+  open-table = λ file table. refl;
+  open-refused = λ file table. refused-zero file (roomIn (length table));
+  plane-number = plane-number;
+  plane-refused = plane-refused;
+  tree-number = tree-number;
+  tree-refused = tree-refused;
+  tree-table = tree-table;
+  channels-number = channels-number;
+  channels-table = channels-table;
+  channels-refused = channels-refused;
+  register-number = register-number;
+  register-refused = register-refused;
+  register-frames = register-frames;
+  border-table = λ file table scene t c z samples. refl;
+  border-refused = λ file table scene t c z samples. border-kept file scene t c z samples (opened file (roomIn (length table)));
+}
+
+pub third : ThirdDemand
+unfolding openCall
+third = record {
+  plane-sample = plane-sample;
+  frames-different = λ file table scene t z scene′ t′ z′ e w w′ q.
+      let g = joined-sound file (summaryIn (opened file (roomIn (length table)))) (theirs file (roomIn (length table)) e .0) in
+      seq-different (loopsOf (summaryIn (opened file (roomIn (length table))))) scene t z scene′ t′ z′ (g .loops-distinct) w w′ q;
+  names-different = λ n m name x y. frame-number-unique x y;
+  number-below = λ file u scene t z g w. seq-below (loopsOf u) scene t z (g .loops-distinct) w;
+  plane-accepted = plane-accepted;
+  opened-sound = λ file table e. joined-sound file (summaryIn (opened file (roomIn (length table)))) (theirs file (roomIn (length table)) e .0);
+  opens-exactly = λ file table. exactly file (roomIn (length table));
+  joined-unique = joined-unique;
+  returns-theirs = λ file table e. theirs file (roomIn (length table)) e .0;
+  half-suffices = λ file r n x. let a = read-passed file r n x in let b = suffices file r in omega arith;
+}

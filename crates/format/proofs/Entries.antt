@@ -1,0 +1,65 @@
+-- What a summary's map has under a name, and under a frame's name, is what is looked up there. Assumes nothing.
+use Prim.Native.Nat.{ℕ, _^_, _<_}
+use mathlib.Core.Path.{_≡_, sym, _∙_}
+use mathlib.Core.Option.{some}
+use mathlib.Core.List.{List, []}
+use Rattle.format.proofs.Answers.{andThen-given, orRefuse-given, go-on, found}
+use Rattle.format.proofs.Chunks.{chunk-read, read-chunk}
+use Rattle.format.proofs.Maps.{map-read, map-unique, listed-read, read-listed}
+use Rattle.format.proofs.Names.{frame-name, frame-name-unique}
+use Rattle.format.specs.Answer.{given, orRefuse}
+use Rattle.format.specs.Chunks.{chunkData}
+use Rattle.format.specs.Map.{MapEntry, mapEntries, offsetOf, namedChunk}
+use Rattle.format.specs.Frames.{frameName}
+use Rattle.format.specs.Summary.{mapOf}
+use Rattle.format.specs.Refused.Plane.{FrameEntry, FrameData}
+use Rattle.format.specs.Refused.Tree.{NameEntry, NameData}
+use Rattle.format.specs.Refusals as why
+use Rattle.format.specs.declared.Range.{Range}
+use Rattle.format.specs.declared.Summary.{Summary}
+
+-- es are the entries of the map of the summary u
+module _ (s : List ℕ) (u : Summary) (es : List MapEntry) (map : mapEntries (mapOf s u) ≡ given es) where
+  -- ---- names
+
+  pub entry-read : (name : List ℕ) (o : ℕ) → offsetOf (mapOf s u) name es ≡ some o → NameEntry s u name o
+  entry-read name o e = record { entries = es; map-of = map-read _ es map; listed = listed-read _ name es o e }
+
+  pub read-entry : (name : List ℕ) (o : ℕ) → NameEntry s u name o → offsetOf (mapOf s u) name es ≡ some o
+  read-entry name o x = rw (map-unique _ es (x .entries) (map-read _ es map) (x .map-of)) (read-listed _ name (x .entries) o (x .listed))
+
+  -- a name's data is that of its one entry
+  pub entry-chunk : (name : List ℕ) (o : ℕ) (r : Range) → offsetOf (mapOf s u) name es ≡ some o → NameData s u name r → chunkData [] s o ≡ given r
+  entry-chunk name o r e x =
+      let q = sym (read-entry name (x .offset) (x .entry)) ∙ e in
+      let k : x .offset ≡ o = cc in
+      rw (← k) (read-chunk [] s (x .offset) r (x .chunk))
+
+  pub data-read : (name : List ℕ) (r : Range) → namedChunk s (mapOf s u) es name ≡ given r → NameData s u name r
+  unfolding namedChunk
+  data-read name r e =
+      let (o, f₁, e₁) = andThen-given (orRefuse (offsetOf (mapOf s u) name es) why.missing) _ e in
+      record { offset = o; entry = entry-read name o (orRefuse-given _ why.missing f₁); chunk = chunk-read [] s o r e₁ }
+
+  pub read-data : (name : List ℕ) (r : Range) → NameData s u name r → namedChunk s (mapOf s u) es name ≡ given r
+  unfolding namedChunk
+  read-data name r x =
+      go-on (orRefuse (offsetOf (mapOf s u) name es) why.missing) _ (x .offset) (found _ why.missing (x .offset) (read-entry name (x .offset) (x .entry)))
+      (read-chunk [] s (x .offset) r (x .chunk))
+
+  -- ---- frames, whose numbers have at most 20 digits
+
+  module _ (n : ℕ) (short : n < 10 ^ 20) where
+    pub frame-entry : (o : ℕ) → offsetOf (mapOf s u) (frameName n) es ≡ some o → FrameEntry s u n o
+    frame-entry o e =
+        let x = entry-read (frameName n) o e in
+        record { entries = x .entries; map-of = x .map-of; name = frameName n; name-of = frame-name n short; listed = x .listed }
+
+    as-name : (o : ℕ) → FrameEntry s u n o → NameEntry s u (frameName n) o
+    as-name o x = rw (frame-name-unique (frame-name n short) (x .name-of)) (record { entries = x .entries; map-of = x .map-of; listed = x .listed })
+
+    pub entry-frame : (o : ℕ) → FrameEntry s u n o → offsetOf (mapOf s u) (frameName n) es ≡ some o
+    entry-frame o x = read-entry (frameName n) o (as-name o x)
+
+    pub frame-chunk : (o : ℕ) (r : Range) → offsetOf (mapOf s u) (frameName n) es ≡ some o → FrameData s u n r → chunkData [] s o ≡ given r
+    frame-chunk o r e x = entry-chunk (frameName n) o r e (record { offset = x .offset; entry = as-name (x .offset) (x .entry); chunk = x .chunk })

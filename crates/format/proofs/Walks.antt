@@ -1,0 +1,171 @@
+-- The grammar's loops are those that the walk finds. Assumes nothing.
+use Prim.Native.Nat.{ℕ, zero, suc, max}
+use mathlib.Core.Path.{_≡_, refl, sym, ap, _∙_}
+use mathlib.Core.Bool.{Bool, true, false, cond, _&&_}
+use mathlib.Core.List.{List, [], _∷_, _++_, map, reverse, append-assoc, append-nil}
+use native.Mathlib.Omega.{arith}
+use lib.Dec.{eqb, ltb}
+use borrow.Author.Tests.{ltb-true, ltb-false, lt-ltb, le-ltb, eqb-true, eqb-false, eq-eqb, ne-eqb}
+use Rattle.format.proofs.Answers.{refused≢given, refuseIf-given, andThen-given, given-inj, not-refused, go-on}
+use Rattle.format.proofs.Means.{Means}
+use Rattle.format.proofs.Loops.{Told, told, stops-said, loop-said, below-in}
+use Rattle.format.proofs.Depths.{Ranked}
+use Rattle.format.proofs.Below.{Fine, not-deepest, kids-fine, top-fine}
+use Rattle.format.proofs.Frames.{has-free, free-has}
+use Rattle.format.specs.Answer.{given, andThen}
+use Rattle.format.specs.Bytes.{ascii}
+use Rattle.format.specs.Trees.{mostDepth}
+use Rattle.format.specs.Values.{level, fieldIn}
+use Rattle.format.specs.Loops.{childLevels, Said, nothing, wrong, loop, supported, said, Built, append, walkAll, walkOne, walk, axisOf, hasAxis, judge, experiment}
+use Rattle.format.specs.Grammar.Lists.{All, more}
+use Rattle.format.specs.Grammar.Values.{Field}
+use Rattle.format.specs.Grammar.Loops.{LoopAt}
+use Rattle.format.specs.Grammar.Loops.{Appended, first, deeper, larger, dropped, Walks, done, stops, spectral, appends, loopOf, Supported, Free, Distinct, LoopsOf}
+use Rattle.format.specs.Grammar.Loops.{nil, cons}
+use Rattle.format.specs.declared.Entry.{Entry}
+use Rattle.format.specs.declared.Axis.{Axis}
+use Rattle.format.specs.declared.Loop.{Loop}
+
+-- ---- the walk
+
+append-is : (t c n : ℕ) (bs bs′ : List Built) → Appended t c n bs bs′ → append t c n bs ≡ bs′
+unfolding append
+append-is t c n bs bs′ first = refl
+append-is t c n bs bs′ (deeper h) = rw (lt-ltb _ _ h) refl
+append-is t c n bs bs′ (larger {b = b} {bs = cs} p q) =
+    let h : ltb (b .nesting) n ≡ false = le-ltb (b .nesting) n (omega arith) in
+    rw (h, eq-eqb (b .nesting) n p, eq-eqb (b .kind) t q) refl
+append-is t c n bs bs′ (dropped {b = b} {bs = cs} h f) =
+    rw (le-ltb (b .nesting) n h) (go (eqb (b .nesting) n) refl (eqb (b .kind) t) refl)
+  where
+    go : (x : Bool) → eqb (b .nesting) n ≡ x → (y : Bool) → eqb (b .kind) t ≡ y
+        → cond (x && y) (record { kind = t; count = max (b .count) c; nesting = n } ∷ cs) (b ∷ cs) ≡ b ∷ cs
+    go true p true q = absurd (f (eqb-true _ _ p) (eqb-true _ _ q))
+    go true p false q = refl
+    go false p y q = refl
+
+is-append : (t c n : ℕ) (bs : List Built) → Appended t c n bs (append t c n bs)
+unfolding append
+is-append t c n [] = first
+is-append t c n (b ∷ bs) = go (ltb (b .nesting) n) refl (eqb (b .nesting) n) refl (eqb (b .kind) t) refl
+  where
+    go : (x : Bool) → ltb (b .nesting) n ≡ x → (y : Bool) → eqb (b .nesting) n ≡ y → (z : Bool) → eqb (b .kind) t ≡ z
+        → Appended t c n (b ∷ bs) (cond x (record { kind = t; count = c; nesting = n } ∷ b ∷ bs) (cond (y && z) (record { kind = t; count = max (b .count) c; nesting = n } ∷ bs) (b ∷ bs)))
+    go true p y q z r = deeper (ltb-true _ _ p)
+    go false p true q true r = larger (eqb-true _ _ q) (eqb-true _ _ r)
+    go false p true q false r = dropped (ltb-false _ _ p) (λ _. eqb-false _ _ r)
+    go false p false q z r = dropped (ltb-false _ _ p) (λ e _. eqb-false _ _ q e)
+
+module _ (s : List ℕ) (es : List Entry) (D : ℕ → ℕ) (R : Ranked D 0 es) (M : Means s es) where
+  walks-walk : (left : ℕ) (is : List ℕ) (n : ℕ) (bs bs′ : List Built) → All (Fine D left) is → Walks s es is n bs bs′ → walkAll (λ i. walk left s es i n) is bs ≡ given bs′
+  unfolding walkAll walk walkOne andThen
+  walks-walk left is n bs bs′ a done = refl
+  walks-walk zero is n bs bs′ (more f a) (stops x w) = absurd (not-deepest f)
+  walks-walk (suc m) is n bs bs′ (more f a) (stops {i = i} {is = js} x w) = rw (stops-said s es M i x) (walks-walk (suc m) js n bs bs′ a w)
+  walks-walk zero is n bs bs′ (more f a) (spectral x b k w) = absurd (not-deepest f)
+  walks-walk (suc m) is n bs bs′ (more f a) (spectral {i = i} {c = c} {is = js} {ks = ks} {bs₁ = cs} x b k w) =
+      let q = below-in s es M i .only ks b in
+      rw (loop-said s es M i 6 c x, q, walks-walk m ks n bs cs (rw q at (kids-fine s es D R m i f)) k) (walks-walk (suc m) js n cs bs′ a w)
+  walks-walk zero is n bs bs′ (more f a) (appends x h p b k w) = absurd (not-deepest f)
+  walks-walk (suc m) is n bs bs′ (more f a) (appends {i = i} {t = t} {c = c} {is = js} {ks = ks} {bs₁ = cs} {bs₂ = ds} x h p b k w) =
+      let q = below-in s es M i .only ks b in
+      rw (loop-said s es M i t c x, ne-eqb t 6 h, append-is t c n bs cs p, q, walks-walk m ks (suc n) cs ds (rw q at (kids-fine s es D R m i f)) k)
+      (walks-walk (suc m) js n ds bs′ a w)
+
+  -- one level deeper than what is known
+  walks-more : (m : ℕ) → ((is : List ℕ) (n : ℕ) (bs bs′ : List Built) → All (Fine D m) is → walkAll (λ i. walk m s es i n) is bs ≡ given bs′ → Walks s es is n bs bs′)
+      → (is : List ℕ) (n : ℕ) (bs bs′ : List Built) → All (Fine D (suc m)) is → walkAll (λ i. walk (suc m) s es i n) is bs ≡ given bs′ → Walks s es is n bs bs′
+  unfolding walkAll walk Told
+  walks-more m ih [] n bs bs′ a e = rw (← given-inj e) done
+  walks-more m ih (i ∷ is) n bs bs′ (more f a) e =
+      let (cs, e₁, e₂) = andThen-given (walk (suc m) s es i n bs) (walkAll (λ i. walk (suc m) s es i n) is) e in
+      go (said s es i) (told s es M i) cs e₁ (walks-more m ih is n cs bs′ a e₂)
+    where
+      ks : List ℕ
+      ks = childLevels s es (fieldIn s es i (ascii "ppNextLevelEx"))
+
+      fine : All (Fine D m) ks
+      fine = kids-fine s es D R m i f
+
+      kind : (t c : ℕ) → LoopAt s es i t c → (b : Bool) → eqb t 6 ≡ b → (cs : List Built)
+          → cond b (walkAll (λ i. walk m s es i n) ks bs) (walkAll (λ i. walk m s es i (suc n)) ks (append t c n bs)) ≡ given cs
+          → Walks s es is n cs bs′ → Walks s es (i ∷ is) n bs bs′
+      kind t c x true h cs e w = spectral (rw (eqb-true t 6 h) at x) (below-in s es M i .holds) (ih ks n bs cs fine e) w
+      kind t c x false h cs e w = appends x (eqb-false t 6 h) (is-append t c n bs) (below-in s es M i .holds) (ih ks (suc n) (append t c n bs) cs fine e) w
+
+      go : (x : Said) → Told s es i x → (cs : List Built) → walkOne (walk m s es) ks n bs x ≡ given cs
+          → Walks s es is n cs bs′ → Walks s es (i ∷ is) n bs bs′
+      go nothing q cs e w = stops q (rw (← given-inj e) at w)
+      go (wrong k) q cs e w = absurd (refused≢given e)
+      go (loop t c) q cs e w = kind t c q (eqb t 6) refl cs e w
+
+  walk-walks : (left : ℕ) (is : List ℕ) (n : ℕ) (bs bs′ : List Built) → All (Fine D left) is → walkAll (λ i. walk left s es i n) is bs ≡ given bs′ → Walks s es is n bs bs′
+  unfolding walkAll
+  walk-walks zero [] n bs bs′ a e = rw (← given-inj e) done
+  walk-walks zero (i ∷ is) n bs bs′ (more f a) e = absurd (not-deepest f)
+  walk-walks (suc m) is n bs bs′ a e = walks-more m (walk-walks m) is n bs bs′ a e
+
+-- ---- the appended loops, judged
+
+free-snoc : (a : Axis) (ls : List Loop) (l : Loop) → Free a ls → (l .axis ≡ a → ⊥) → Free a (ls ++ l ∷ [])
+free-snoc a [] l f h = cons h nil
+free-snoc a (k ∷ ls) l (cons g f) h = cons g (free-snoc a ls l f h)
+
+distinct-snoc : (ls : List Loop) (l : Loop) → Distinct ls → Free (l .axis) ls → Distinct (ls ++ l ∷ [])
+distinct-snoc [] l d f = cons nil nil
+distinct-snoc (k ∷ ls) l (cons g d) (cons h f) = cons (free-snoc (k .axis) ls l g (λ e. h (sym e))) (distinct-snoc ls l d f)
+
+free-head : (a : Axis) (ls : List Loop) (l : Loop) (ms : List Loop) → Free a (ls ++ l ∷ ms) → (l .axis ≡ a → ⊥)
+free-head a [] l ms (cons h f) = h
+free-head a (k ∷ ls) l ms (cons h f) = free-head a ls l ms f
+
+distinct-free : (ls : List Loop) (l : Loop) (ms : List Loop) → Distinct (ls ++ l ∷ ms) → Free (l .axis) ls
+distinct-free [] l ms d = nil
+distinct-free (k ∷ ls) l ms (cons f d) = cons (λ e. free-head (k .axis) ls l ms f (sym e)) (distinct-free ls l ms d)
+
+snoc-more : (ls : List Loop) (l : Loop) (ms : List Loop) → (ls ++ l ∷ []) ++ ms ≡ ls ++ l ∷ ms
+snoc-more ls l ms = append-assoc ls (l ∷ []) ms
+
+judge-read : (ls : List Loop) (bs : List Built) (ms : List Loop) → Distinct ls → judge ls bs ≡ given ms → Supported bs × (ms ≡ ls ++ map loopOf bs) × Distinct ms
+unfolding judge
+judge-read ls [] ms d e = let q : ls ≡ ms = given-inj e in (nil, sym q ∙ sym (append-nil ls), rw (← q) d)
+judge-read ls (b ∷ bs) ms d e =
+    let (f₁, e₁) = refuseIf-given (eqb (b .kind) 7) 15 _ e in
+    let (f₂, e₂) = refuseIf-given (hasAxis (axisOf (b .kind)) ls) 17 _ e₁ in
+    let (r₁, r₂, r₃) = judge-read (ls ++ loopOf b ∷ []) bs ms (distinct-snoc ls (loopOf b) d (has-free (axisOf (b .kind)) ls f₂)) e₂ in
+    (cons (eqb-false _ _ f₁) r₁, r₂ ∙ snoc-more ls (loopOf b) (map loopOf bs), r₃)
+
+read-judge : (ls : List Loop) (bs : List Built) → Supported bs → Distinct (ls ++ map loopOf bs) → judge ls bs ≡ given (ls ++ map loopOf bs)
+unfolding judge
+read-judge ls [] x d = rw append-nil refl
+read-judge ls (b ∷ bs) (cons h x) d =
+    not-refused (eqb (b .kind) 7) 15 _ _ (ne-eqb _ _ h)
+    (not-refused (hasAxis (axisOf (b .kind)) ls) 17 _ _ (free-has (axisOf (b .kind)) ls (distinct-free ls (loopOf b) (map loopOf bs) d))
+    (read-judge (ls ++ loopOf b ∷ []) bs x (rw snoc-more d) ∙ ap given (snoc-more ls (loopOf b) (map loopOf bs))))
+
+-- ---- the experiment's level of a tree
+
+module _ (s : List ℕ) (es : List Entry) (D : ℕ → ℕ) (R : Ranked D 0 es) (M : Means s es) (i : ℕ) (there : Field s es 0 (ascii "SLxExperiment") (level i)) where
+  fine : All (Fine D mostDepth) (i ∷ [])
+  unfolding ascii
+  fine = top-fine s es D R (ascii "SLxExperiment") i (M .of-field 0 _ _ (level i) there)
+
+  pub loops-read : (ls : List Loop) → experiment s es i ≡ given ls → LoopsOf s es i ls
+  unfolding experiment walkAll
+  loops-read ls e =
+      let (bs, e₁, e₂) = andThen-given (walk mostDepth s es i 0 []) _ e in
+      let (r₁, r₂, r₃) = judge-read [] (reverse bs) ls nil e₂ in
+      record {
+        built = bs;
+        walked = walk-walks s es D R M mostDepth (i ∷ []) 0 [] bs fine (go-on (walk mostDepth s es i 0 []) _ bs e₁ refl);
+        supported = r₁;
+        in-order = r₂;
+        distinct = r₃;
+      }
+
+  pub read-loops : (ls : List Loop) → LoopsOf s es i ls → experiment s es i ≡ given ls
+  unfolding experiment walkAll
+  read-loops ls x =
+      let (bs, e₁, e₂) = andThen-given (walk mostDepth s es i 0 []) _ (walks-walk s es D R M mostDepth (i ∷ []) 0 [] (x .built) fine (x .walked)) in
+      let j : judge [] (reverse (x .built)) ≡ given (map loopOf (reverse (x .built))) = read-judge [] (reverse (x .built)) (x .supported) (rw (x .in-order) at (x .distinct)) in
+      go-on (walk mostDepth s es i 0 []) _ (x .built) (e₁ ∙ e₂) (j ∙ ap given (sym (x .in-order)))

@@ -1,0 +1,89 @@
+-- "The grammar": what the entries es of a tree in the file s mean, as rules. p is the number of a level's entry plus one, and 0 stands for the whole tree.
+use Prim.Native.Nat.{ℕ, suc, _<_}
+use mathlib.Core.Path.{_≡_}
+use mathlib.Core.Option.{some}
+use mathlib.Core.List.{List, [], _∷_, _++_}
+use lib.ListN.{length, getElem?}
+use Rattle.format.specs.Values.{Value, level, list, leaf, nameOf}
+use Rattle.format.specs.Grammar.Lists.{Just}
+use Rattle.format.specs.declared.Entry.{Entry}
+
+abbrev pub NoList : Value → Type 0
+NoList v = (l : List ℕ) → v ≡ list l → ⊥
+
+abbrev pub NoLevel : Value → Type 0
+NoLevel v = (i : ℕ) → v ≡ level i → ⊥
+
+-- "A second unnamed value turns the first into a list; if that is already a list it is appended": the elements where the first unnamed entry is j,
+-- its value v, and js are the later ones
+pub data Elements (j : ℕ) (v : Value) (js : List ℕ) : List ℕ → Type 0 where
+  first : NoList v → Elements j v js (j ∷ js)
+  appended : {l : List ℕ} → v ≡ list l → Elements j v js (l ++ js)
+
+-- of these, whose values are as Has says, the ones that are levels
+pub data Levels (Has : ℕ → Value → Type 0) : List ℕ → List ℕ → Type 0 where
+  none : Levels Has [] []
+  one : {i j : ℕ} {is js : List ℕ} → Has j (level i) → Levels Has js is → Levels Has (j ∷ js) (i ∷ is)
+  other : {j : ℕ} {v : Value} {is js : List ℕ} → Has j v → NoLevel v → Levels Has js is → Levels Has (j ∷ js) is
+
+module _ (s : List ℕ) (es : List Entry) where
+  -- ---- names
+
+  -- the entry j stands in the level p and bears the name; the empty one is that of an unnamed entry
+  pub record Bears (p : ℕ) (name : List ℕ) (j : ℕ) : Type 0 where
+    pub entry : Entry
+    pub there : getElem? es j ≡ some entry
+    pub child : entry .parent ≡ p
+    pub name-is : nameOf s entry ≡ name
+
+  -- no later entry of the level bears the name: it "takes the last value"
+  pub record Last (p : ℕ) (name : List ℕ) (j : ℕ) : Type 0 where
+    pub bears : Bears p name j
+    pub none-later : (k : ℕ) → j < k → Bears p name k → ⊥
+
+  -- no earlier entry of the level bears the same name: it "keeps its first place"
+  pub record Place (p j : ℕ) : Type 0 where
+    pub name : List ℕ
+    pub bears : Bears p name j
+    pub none-earlier : (k : ℕ) → k < j → Bears p name k → ⊥
+
+  -- the level's "only entry is unnamed": it has entries, and none of them has a name
+  pub record Nameless (p : ℕ) : Type 0 where
+    pub one : ℕ
+    pub unnamed : Bears p [] one
+    pub none-named : (j u : ℕ) (name : List ℕ) → Bears p (u ∷ name) j → ⊥
+
+  -- ---- values
+
+  -- the value of the entry i
+  pub data ValueOf : ℕ → Value → Type 0 where
+    is-leaf : {i : ℕ} {e : Entry} → getElem? es i ≡ some e → (e .kind ≡ 11 → ⊥) → ValueOf i (leaf s e)
+    is-level : {i : ℕ} {e : Entry} → getElem? es i ≡ some e → e .kind ≡ 11 → (Nameless (suc i) → ⊥) → ValueOf i (level i)
+    is-list : {i j : ℕ} {e : Entry} {v : Value} {js l : List ℕ} → getElem? es i ≡ some e → e .kind ≡ 11 → Nameless (suc i)
+        → Just (Bears (suc i) []) (j ∷ js) → ValueOf j v → Elements j v js l → ValueOf i (list l)
+
+  -- the level p has this value under the name
+  pub record Field (p : ℕ) (name : List ℕ) (v : Value) : Type 0 where
+    pub place : ℕ
+    pub last : Last p name place
+    pub value : ValueOf place v
+
+  -- the value of the place j of the level p: of its name, of its one unnamed entry, or of all of them
+  pub data PlaceValue (p j : ℕ) : Value → Type 0 where
+    of-name : {u : ℕ} {name : List ℕ} {v : Value} → Bears p (u ∷ name) j → Field p (u ∷ name) v → PlaceValue p j v
+    of-one : {v : Value} → Just (Bears p []) (j ∷ []) → ValueOf j v → PlaceValue p j v
+    of-several : {k : ℕ} {v : Value} {js l : List ℕ} → Just (Bears p []) (j ∷ k ∷ js) → ValueOf j v → Elements j v (k ∷ js) l → PlaceValue p j (list l)
+
+  -- ---- "elements or entries"
+
+  -- the elements or entries of a value "that are levels"
+  pub data LevelsIn : Value → List ℕ → Type 0 where
+    of-level : {i : ℕ} {is js : List ℕ} → Just (Place (suc i)) js → Levels (PlaceValue (suc i)) js is → LevelsIn (level i) is
+    of-list : {is js : List ℕ} → Levels ValueOf js is → LevelsIn (list js) is
+    of-other : {v : Value} → NoLevel v → NoList v → LevelsIn v []
+
+  -- how many elements or entries a value has
+  pub data SizeOf : Value → ℕ → Type 0 where
+    of-level : {i : ℕ} {js : List ℕ} → Just (Place (suc i)) js → SizeOf (level i) (length js)
+    of-list : {js : List ℕ} → SizeOf (list js) (length js)
+    of-other : {v : Value} → NoLevel v → NoList v → SizeOf v 0

@@ -1,0 +1,8 @@
+-- "Why a file is turned away", for each call that takes a summary: every refusal as a proposition, the call's order of them, and what an accepted call
+-- leaves behind. With none of the definitions that compute an answer.
+pub mod Order
+pub mod Summary
+pub mod Plane
+pub mod Tree
+pub mod Channels
+pub mod Register

@@ -1,0 +1,69 @@
+-- The plane call: "20, 21, 22, 5, 23, 4, 24, 25".
+use Prim.Native.Nat.{ℕ, _+_, _-_, _*_, _≤_, _<_}
+use mathlib.Core.Path.{_≡_}
+use mathlib.Core.List.{List, [], _∷_}
+use lib.ListN.{length, getD}
+use Rattle.format.specs.Bytes.{most64}
+use Rattle.format.specs.Map.{MapEntry}
+use Rattle.format.specs.Attributes.{sampleBytes, planeBytes}
+use Rattle.format.specs.Frames.{countOf, seqIndex}
+use Rattle.format.specs.Summary.{shapeOf, loopsOf, mapOf}
+use Rattle.format.specs.Grammar.Chunks.{Chunk}
+use Rattle.format.specs.Grammar.Map.{MapOf, Listed}
+use Rattle.format.specs.Grammar.Frames.{FrameName}
+use Rattle.format.specs.Refused.Summary.{Sound}
+use Rattle.format.specs.Refusals as why
+use Rattle.format.specs.declared.Range.{Range}
+use Rattle.format.specs.declared.Axis.the-variants.{T, Z, P}
+use Rattle.format.specs.declared.Loop.{Loop}
+use Rattle.format.specs.declared.Summary.{Summary}
+
+-- each index is below its axis's count: "an absent axis has one value"
+pub record Within (ls : List Loop) (scene t z : ℕ) : Type 0 where
+  pub scene-below : scene < countOf P ls
+  pub t-below : t < countOf T ls
+  pub z-below : z < countOf Z ls
+
+-- the map of the summary u has frame n at the offset o: its last entry of that name
+pub record FrameEntry (s : List ℕ) (u : Summary) (n o : ℕ) : Type 0 where
+  pub entries : List MapEntry
+  pub map-of : MapOf (mapOf s u) entries
+  pub name : List ℕ
+  pub name-of : FrameName n name
+  pub listed : Listed (mapOf s u) name entries o
+
+-- the chunk there has the data r
+pub record FrameData (s : List ℕ) (u : Summary) (n : ℕ) (r : Range) : Type 0 where
+  pub offset : ℕ
+  pub entry : FrameEntry s u n offset
+  pub chunk : Chunk [] s offset r
+
+-- the data is long enough: not "under 8 bytes, row bytes × height past 2^64 − 1 or more than what follows the prefix"
+pub record FrameLong (u : Summary) (r : Range) : Type 0 where
+  pub prefix : 8 ≤ r .len
+  pub product : u .stride * u .height ≤ most64
+  pub rows : u .stride * u .height ≤ r .len - 8
+
+-- when each refusal of a plane holds; buf is the buffer that is lent for the samples
+pub data PlaneRefusal (s : List ℕ) (u : Summary) (scene t c z : ℕ) (buf : List ℕ) : ℕ → Type 0 where
+  summary : (Sound s u → ⊥) → PlaneRefusal s u scene t c z buf why.summary
+  index : (Within (loopsOf u) scene t z → c < u .components → ⊥) → PlaneRefusal s u scene t c z buf why.index
+  ceiling : 4_294_967_296 < planeBytes (shapeOf u) → PlaneRefusal s u scene t c z buf why.ceiling
+  map : ((es : List MapEntry) → MapOf (mapOf s u) es → ⊥) → PlaneRefusal s u scene t c z buf why.map
+  no-frame : ((o : ℕ) → FrameEntry s u (seqIndex (loopsOf u) scene t z) o → ⊥) → PlaneRefusal s u scene t c z buf why.noFrame
+  chunk : ((r : Range) → FrameData s u (seqIndex (loopsOf u) scene t z) r → ⊥) → PlaneRefusal s u scene t c z buf why.chunk
+  frame-short : ((r : Range) → FrameData s u (seqIndex (loopsOf u) scene t z) r → FrameLong u r → ⊥) → PlaneRefusal s u scene t c z buf why.frameShort
+  buffer : length buf < planeBytes (shapeOf u) → PlaneRefusal s u scene t c z buf why.buffer
+
+abbrev pub planeOrder : List ℕ
+planeOrder =
+    why.summary ∷ why.index ∷ why.ceiling ∷ why.map ∷ why.noFrame ∷ why.chunk ∷ why.frameShort ∷ why.buffer ∷ []
+
+-- `out` is what an accepted plane of component c leaves in `buf`; chunk is the data of the frame's chunk. Sample y × width + x, byte for byte, is "the sample beginning
+-- 8 + y × row bytes + (x × components + c) × sample bytes into the data"; "later bytes untouched".
+pub record Copied (u : Summary) (c : ℕ) (chunk buf out : List ℕ) : Type 0 where
+  pub sample : (y x k : ℕ) → y < u .height → x < u .width → k < sampleBytes (u .bits)
+      → getD out ((y * u .width + x) * sampleBytes (u .bits) + k) 0
+      ≡ getD chunk (8 + y * u .stride + (x * u .components + c) * sampleBytes (u .bits) + k) 0
+  pub later : (i : ℕ) → u .width * u .height * sampleBytes (u .bits) ≤ i → getD out i 0 ≡ getD buf i 0
+  pub length-kept : length out ≡ length buf

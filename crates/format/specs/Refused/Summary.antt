@@ -1,0 +1,21 @@
+-- Row 20: "the shape rules fail, bits are not 8, 16 or 32, a loop count is not 1 to 1,000,000, loops are over three, an axis repeats, or the map range leaves the
+-- file."
+use Prim.Native.Nat.{ℕ, _+_, _≤_}
+use mathlib.Core.List.{List}
+use lib.ListN.{length}
+use Rattle.format.specs.Bytes.{most64}
+use Rattle.format.specs.Attributes.{planeBytes}
+use Rattle.format.specs.Summary.{shapeOf, loopsOf}
+use Rattle.format.specs.Grammar.Attributes.{Bits, Shape}
+use Rattle.format.specs.Grammar.Loops.{Counted, Distinct}
+use Rattle.format.specs.declared.Summary.{Summary}
+
+-- not 20
+pub record Sound (s : List ℕ) (u : Summary) : Type 0 where
+  pub bits : Bits (u .bits)
+  pub shape : Shape (shapeOf u)
+  pub plane-most : planeBytes (shapeOf u) ≤ most64
+  pub loops-most : u .depth ≤ 3
+  pub loops-counted : Counted (loopsOf u)
+  pub loops-distinct : Distinct (loopsOf u)
+  pub map-within : u .map .start + u .map .len ≤ length s

@@ -1,0 +1,45 @@
+-- The tree call: "20, 5, 11, 4, tree". Of a tree's own refusals 18 comes before a later fault, and of the others a tree has at most one.
+use Prim.Native.Nat.{ℕ, _<_}
+use mathlib.Core.List.{List, [], _∷_}
+use Rattle.format.specs.Map.{MapEntry}
+use Rattle.format.specs.Summary.{mapOf}
+use Rattle.format.specs.Grammar.Chunks.{Chunk}
+use Rattle.format.specs.Grammar.Map.{MapOf, Listed}
+use Rattle.format.specs.Grammar.Trees.{Faulty, PassedIn}
+use Rattle.format.specs.Refused.Summary.{Sound}
+use Rattle.format.specs.Refusals as why
+use Rattle.format.specs.declared.Range.{Range}
+use Rattle.format.specs.declared.Summary.{Summary}
+
+-- the map of the summary u has the name at the offset o
+pub record NameEntry (s : List ℕ) (u : Summary) (name : List ℕ) (o : ℕ) : Type 0 where
+  pub entries : List MapEntry
+  pub map-of : MapOf (mapOf s u) entries
+  pub listed : Listed (mapOf s u) name entries o
+
+-- the chunk there has the data r
+pub record NameData (s : List ℕ) (u : Summary) (name : List ℕ) (r : Range) : Type 0 where
+  pub offset : ℕ
+  pub entry : NameEntry s u name offset
+  pub chunk : Chunk [] s offset r
+
+-- "a record needs an entry and none is left": more than `room` records of the tree under this name pass
+pub record TableShort (s : List ℕ) (u : Summary) (name : List ℕ) (room : ℕ) : Type 0 where
+  pub place : Range
+  pub chunk : NameData s u name place
+  pub count : ℕ
+  pub passed : PassedIn s place count
+  pub too-many : room < count
+
+-- when each refusal of a tree holds; the table has `room` whole entries
+pub data TreeRefusal (s : List ℕ) (u : Summary) (name : List ℕ) (room : ℕ) : ℕ → Type 0 where
+  summary : (Sound s u → ⊥) → TreeRefusal s u name room why.summary
+  map : ((es : List MapEntry) → MapOf (mapOf s u) es → ⊥) → TreeRefusal s u name room why.map
+  missing : ((o : ℕ) → NameEntry s u name o → ⊥) → TreeRefusal s u name room why.missing
+  chunk : ((r : Range) → NameData s u name r → ⊥) → TreeRefusal s u name room why.chunk
+  table : TableShort s u name room → TreeRefusal s u name room why.table
+  fault : {r : Range} {n : ℕ} → NameData s u name r → Faulty s r n → TreeRefusal s u name room n
+
+abbrev pub treeOrder : List ℕ
+treeOrder =
+    why.summary ∷ why.map ∷ why.missing ∷ why.chunk ∷ why.table ∷ why.cut ∷ why.kind ∷ why.packed ∷ why.deep ∷ why.level ∷ []
