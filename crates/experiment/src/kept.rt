@@ -5,7 +5,6 @@ ghost use Prim.Native.Nat.{_+_, _≤_, _<_, _^_, max};
 ghost use lib.ListN.{take};
 ghost use Rattle.format.specs.Loops.{Built, append, axisOf, axisNumber, hasAxis};
 ghost use Rattle.experiment.specs.Kept.{Stands, Reached, Grown, larger};
-
 use format::Axis;
 use format::Loop;
 use format::refusal;
