@@ -1,8 +1,8 @@
 -- A tree's entries are a forest in file order: each comes after its parent, and a level's children stand together. Assumes nothing.
 use Prim.Native.Nat.{ℕ, zero, suc, _+_, _-_, _≤_, _<_}
-use mathlib.Core.Path.{_≡_, refl, sym, ap, _∙_}
+use mathlib.Core.Path.{_≡_, refl, ap, _∙_}
 use mathlib.Core.Logic.{_⊎_, inl, inr}
-use mathlib.Core.Option.{Option, none, some}
+use mathlib.Core.Option.{none, some}
 use mathlib.Core.List.{List, [], _∷_, _++_}
 use native.Mathlib.Omega.{arith}
 use native.Mathlib.Decide.{decLt}
@@ -75,7 +75,7 @@ pub record Placed (p u i : ℕ) (x : Entry) : Type 0 where
 pub forest-placed : (p u : ℕ) (l : List Entry) (i : ℕ) (x : Entry) → Forest p u l → p ≤ u → getElem? l i ≡ some x → Placed p u i x
 forest-placed p u l i x bare o h = absurd (none≢some h)
 forest-placed p u l i x (tree e ks rs q f r) o h =
-    go (λ j. forest-placed (suc u) (suc u) ks j x f (omega arith)) (λ j. forest-placed p (suc u + length ks) rs j x r (omega arith))
+    go (λ j g. forest-placed (suc u) (suc u) ks j x f (omega arith) g) (λ j g. forest-placed p (suc u + length ks) rs j x r (omega arith) g)
     (where-is e ks rs i x h)
   where
     go : ((j : ℕ) → getElem? ks j ≡ some x → Placed (suc u) (suc u) j x) → ((j : ℕ) → getElem? rs j ≡ some x → Placed p (suc u + length ks) j x)
@@ -93,15 +93,18 @@ pub forest-nested : (p u : ℕ) (l : List Entry) (q i k : ℕ) (x y : Entry) →
     → i ≤ k → q ≤ u + i → x .parent < q → y .parent ≡ q → ⊥
 forest-nested p u l q i k x y bare o h m a b c d = none≢some h
 forest-nested p u l q i k x y (tree e ks rs w f r) o h m a b c d =
-    go (λ i k. forest-nested (suc u) (suc u) ks q i k x y f (omega arith)) (λ i k. forest-nested p (suc u + length ks) rs q i k x y r (omega arith))
+    go (λ i k h m a b c d. forest-nested (suc u) (suc u) ks q i k x y f (omega arith) h m a b c d) (λ i k h m a b c d. forest-nested p (suc u + length ks) rs q i k x y r (omega arith) h m a b c d)
     (where-is e ks rs i x h) (where-is e ks rs k y m)
   where
     kid : (j : ℕ) (z : Entry) → getElem? ks j ≡ some z → u < z .parent
     kid j z g = above u (z .parent) (forest-placed (suc u) (suc u) ks j z f (omega arith) g .from)
+
     late : (j : ℕ) (z : Entry) → getElem? rs j ≡ some z → (z .parent ≡ p → ⊥) → suc u + length ks < z .parent
     late j z g = forest-placed p (suc u + length ks) rs j z r (omega arith) g .from
+
     first : x ≡ e → x .parent ≡ p
     first g = ap (λ (n : Entry). n .parent) g ∙ w
+
     go : ((i k : ℕ) → getElem? ks i ≡ some x → getElem? ks k ≡ some y → i ≤ k → q ≤ suc u + i → x .parent < q → y .parent ≡ q → ⊥)
         → ((i k : ℕ) → getElem? rs i ≡ some x → getElem? rs k ≡ some y → i ≤ k → q ≤ suc u + length ks + i → x .parent < q → y .parent ≡ q → ⊥)
         → Where e ks rs i x → Where e ks rs k y → ⊥

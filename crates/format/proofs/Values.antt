@@ -1,7 +1,7 @@
 -- The values that are computed are those that the grammar's rules give. Assumes nothing.
 use Prim.Native.Nat.{ℕ, zero, suc, _+_, _<_}
 use mathlib.Core.Path.{_≡_, refl, sym, ap, _∙_}
-use mathlib.Core.Bool.{Bool, true, false, cond, true≢false}
+use mathlib.Core.Bool.{Bool, true, false, true≢false}
 use mathlib.Core.Option.{Option, none, some, Option·some-inj}
 use mathlib.Core.List.{List, [], _∷_, _++_, nil≢cons}
 use native.Mathlib.Omega.{arith}

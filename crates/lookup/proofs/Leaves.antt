@@ -1,7 +1,7 @@
 -- Laws of the values of entries that are no levels, by their type, and of the readings of values. Assumes nothing.
-use Prim.Native.Nat.{ℕ, _+_, _-_, _/_, _≤_, _<_}
+use Prim.Native.Nat.{ℕ, _+_, _-_, _/_, _≤_}
 use mathlib.Core.Path.{_≡_, refl, sym, _∙_}
-use mathlib.Core.Bool.{Bool, not, cond}
+use mathlib.Core.Bool.{not, cond}
 use mathlib.Core.List.{List}
 use native.Mathlib.Nat.{add-zero}
 use lib.Dec.{eqb, ltb}

@@ -1,8 +1,8 @@
 -- Laws of a level's places: its slots are those of the first children of each name, in order. Assumes nothing.
 use Prim.Native.Nat.{ℕ, zero, suc, _+_, _≤_, _<_}
 use mathlib.Core.Path.{_≡_, refl, sym, ap, _∙_, subst}
-use mathlib.Core.Bool.{Bool, true, false, not, _&&_, _||_, cond, true≢false}
-use mathlib.Core.Option.{Option, none, some}
+use mathlib.Core.Bool.{Bool, true, false, not, _&&_, _||_, cond}
+use mathlib.Core.Option.{Option, some}
 use mathlib.Core.List.{List, [], _∷_, _++_, append-nil}
 use native.Mathlib.Omega.{arith}
 use lib.Dec.{eqb}
@@ -12,11 +12,10 @@ use Rattle.format.proofs.Tests.{or-left, or-right, same-true, same-refl}
 use Rattle.format.specs.Bytes.{same}
 use Rattle.format.specs.Values.{Slot, named, unnamed, putNamed, putUnnamed, put, nameOf, slotsOf, find}
 use Rattle.format.specs.declared.Entry.{Entry}
-use Rattle.lookup.specs.Table.{firsts, Ordered, Run, lastNamed, found}
+use Rattle.lookup.specs.Table.{firsts, Ordered, Run, lastNamed}
 use Rattle.lookup.specs.Values.{unnamedIn}
 use Rattle.lookup.specs.Walks.{isNone, leads, leadsIn, slotFor, slotAt, slotsAt}
-use Rattle.lookup.specs.declared.Found.{Found}
-use Rattle.lookup.proofs.Between.{between-here, between-skip, between-end, between-none, between-lower, between-last, between-zero}
+use Rattle.lookup.proofs.Between.{between-here, between-skip, between-none, between-lower, between-last, between-zero}
 use Rattle.lookup.proofs.Rows.{slots-start, slots-more, child-after}
 
 -- ---- Bool

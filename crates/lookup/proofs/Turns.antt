@@ -1,7 +1,7 @@
 -- Laws of the value of a place, as the code finds it, and of a walk over child levels. Assumes nothing.
 use Prim.Native.Nat.{ℕ, zero, suc, _+_, _-_, _≤_, _<_}
 use mathlib.Core.Path.{_≡_, refl, sym, ap, _∙_, subst}
-use mathlib.Core.Bool.{Bool, true, false}
+use mathlib.Core.Bool.{true, false}
 use mathlib.Core.Option.{Option, none, some}
 use mathlib.Core.List.{List, [], _∷_}
 use native.Mathlib.Numerals.{add-one}
@@ -26,7 +26,7 @@ use Rattle.lookup.specs.declared.Turn.the-variants as turn
 use Rattle.lookup.proofs.ClxValue.{the-type}
 use Rattle.lookup.proofs.Lists.{no-name, some-name}
 use Rattle.lookup.proofs.Search.{find-run}
-use Rattle.lookup.proofs.Elements.{kids-split, kid-rest, unnamed-kids, head-kids, none-kids, get-drop, get-less, get-past}
+use Rattle.lookup.proofs.Elements.{kids-split, kid-rest, unnamed-kids, head-kids, none-kids, get-drop, get-less}
 use Rattle.lookup.proofs.Places.{slots-at, leads-low, leads-past, leads-here, leads-skip}
 
 -- ---- the only unnamed child

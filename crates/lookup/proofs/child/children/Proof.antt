@@ -1,6 +1,5 @@
 -- A level's entries are its places, a list's elements begin with the first, and any other value has none.
 use native.Mathlib.Omega.{arith}
-use mathlib.Core.Path.{_≡_}
 use Rattle.lookup.proofs.Fields.{inside-is}
 use Rattle.lookup.proofs.Readings.{inside-level, inside-list}
 use Rattle.lookup.proofs.Search.{is-at, is-nothing, at-within}

@@ -1,6 +1,5 @@
 -- A level has as many entries as places, a list its elements, and any other value none.
 use native.Mathlib.Omega.{arith}
-use mathlib.Core.Path.{_≡_}
 use Rattle.lookup.proofs.Fields.{inside-is}
 use Rattle.lookup.proofs.Readings.{inside-level, inside-list}
 use Rattle.lookup.proofs.Turns.{size-absent, size-level, size-list, size-other}

@@ -1,7 +1,7 @@
 -- An entry that is no child of the level stands below one that comes before it, and no child comes between the two.
-use Prim.Native.Nat.{ℕ, _≤_, _<_, _-_}
+use Prim.Native.Nat.{_-_}
 use native.Mathlib.Omega.{arith}
-use mathlib.Core.Path.{_≡_, sym, _∙_}
+use mathlib.Core.Path.{sym, _∙_}
 use Rattle.lookup.specs.Table.{entryIn}
 use Rattle.lookup.proofs.Rows.{Back, back-start, back-found, back-up, back-above}
 use Rattle.lookup.proofs.entry.child_before.Statement.{statement}

@@ -1,7 +1,6 @@
 -- The entries from the level's first on lie below it, and the first that does not ends its children.
-use Prim.Native.Nat.{ℕ, _≤_, _<_, _-_}
+use Prim.Native.Nat.{_-_}
 use native.Mathlib.Omega.{arith}
-use mathlib.Core.Path.{_≡_, sym, _∙_}
 use Rattle.lookup.specs.Table.{entryIn, Below}
 use Rattle.lookup.proofs.Rows.{below-none, below-more}
 use Rattle.lookup.proofs.entry.end_of.Statement.{statement}

@@ -1,5 +1,4 @@
 -- The value is that of the entry that is found.
-use mathlib.Core.Path.{_≡_}
 use Rattle.lookup.specs.Values.{fieldMeaning}
 use Rattle.lookup.proofs.Fields.{field-none, field-some}
 use Rattle.lookup.proofs.Search.{is-at, is-nothing, at-within}

@@ -1,5 +1,5 @@
 -- The search goes through the level's run.
-use mathlib.Core.Path.{_≡_, _∙_}
+use mathlib.Core.Path.{_∙_}
 use Rattle.lookup.proofs.Search.{find-run, within-more}
 use Rattle.lookup.proofs.level.get_entry.Statement.{statement}
 use Rattle.lookup.proofs.level.get_entry.Tie as tie

@@ -1,5 +1,4 @@
 -- The names of two entries are compared.
-use mathlib.Core.Path.{_≡_}
 use Rattle.format.specs.Values.{nameOf}
 use borrow.Author.Needs.{needs}
 use Rattle.lookup.proofs.named.alike.Statement.{statement}

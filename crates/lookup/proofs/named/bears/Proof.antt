@@ -1,5 +1,4 @@
 -- The name of entry i is compared.
-use mathlib.Core.Path.{_≡_}
 use Rattle.format.specs.Values.{nameOf}
 use borrow.Author.Needs.{needs}
 use Rattle.lookup.proofs.named.bears.Statement.{statement}

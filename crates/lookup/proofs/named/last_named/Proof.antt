@@ -1,7 +1,7 @@
 -- The search goes from child to child, from the last one to the first.
-use Prim.Native.Nat.{ℕ, _≤_, _<_, _-_}
+use Prim.Native.Nat.{_-_}
 use native.Mathlib.Omega.{arith}
-use mathlib.Core.Path.{_≡_, sym, _∙_}
+use mathlib.Core.Path.{sym, _∙_}
 use Rattle.lookup.specs.Table.{entryIn, found}
 use Rattle.lookup.proofs.Search.{at-child, no-child, last-here, last-none, Searching, at-start, at-next}
 use Rattle.lookup.proofs.named.last_named.Statement.{statement}

@@ -1,7 +1,7 @@
 -- n places stand before entry i of the level's run.
-use Prim.Native.Nat.{ℕ, _≤_, _<_, _-_}
+use Prim.Native.Nat.{_≤_, _<_, _-_}
 use native.Mathlib.Omega.{arith}
-use mathlib.Core.Path.{_≡_, sym, _∙_}
+use mathlib.Core.Path.{sym, _∙_}
 use mathlib.Core.Logic.{⊎-elim}
 use Rattle.lookup.specs.Table.{entryIn, Run}
 use Rattle.lookup.proofs.Places.{Placed, placed-start, placed-here, placed-skip, placed-end}

@@ -1,10 +1,6 @@
 -- A child is a place where no child before it has its name.
-use native.Mathlib.Omega.{arith}
-use mathlib.Core.Path.{_≡_, refl, ap, _∙_}
-use mathlib.Core.Bool.{true, false}
 use Rattle.format.specs.Values.{nameOf}
 use Rattle.lookup.specs.Table.{entryIn}
-use Rattle.lookup.specs.Walks.{isNone}
 use Rattle.lookup.proofs.Places.{place-first, place-other}
 use Rattle.lookup.proofs.Search.{is-at, is-nothing}
 use borrow.Author.Needs.{needs}

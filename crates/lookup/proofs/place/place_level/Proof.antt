@@ -1,6 +1,5 @@
 -- The value of a name is that of its last child, and unnamed children are a list unless there is only one.
 use native.Mathlib.Omega.{arith}
-use mathlib.Core.Path.{_≡_}
 use Rattle.lookup.specs.Table.{entryIn, found}
 use Rattle.lookup.proofs.Search.{is-at, is-nothing, at-within}
 use Rattle.lookup.proofs.Turns.{place-unnamed, place-named, place-absent}

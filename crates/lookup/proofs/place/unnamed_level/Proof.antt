@@ -1,6 +1,6 @@
 -- The first unnamed child is the only one where no other comes after it.
 use native.Mathlib.Omega.{arith}
-use mathlib.Core.Path.{_≡_, sym, ap, _∙_}
+use mathlib.Core.Path.{sym, ap, _∙_}
 use Rattle.lookup.specs.Table.{entryIn, found}
 use Rattle.lookup.specs.Values.{headOf}
 use Rattle.lookup.proofs.Elements.{kids-own, head-low}

@@ -1,5 +1,5 @@
 -- A level whose children are not all unnamed is a level.
-use mathlib.Core.Path.{_≡_, sym, _∙_}
+use mathlib.Core.Path.{sym, _∙_}
 use Rattle.lookup.specs.Table.{entryIn, found}
 use Rattle.lookup.proofs.Lists.{level-yes, level-list, level-leaf}
 use borrow.Author.Needs.{needs}

@@ -1,6 +1,5 @@
 -- Numbers up to half of the largest are their own, the others count down from −1.
 use Prim.Native.Nat.{_+_, _/_}
-use mathlib.Core.Path.{_≡_}
 use native.Mathlib.Omega.{arith}
 use borrow.Author.Tests.{lt-ltb, le-ltb}
 use Rattle.lookup.specs.Values.{meaning}

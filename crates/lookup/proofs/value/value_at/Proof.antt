@@ -1,5 +1,5 @@
 -- A level is a list or a level by its children, and any other entry is by its type.
-use mathlib.Core.Path.{_≡_, sym, ap, _∙_}
+use mathlib.Core.Path.{sym, ap, _∙_}
 use Rattle.format.specs.declared.Entry.{Entry}
 use Rattle.lookup.proofs.Lists.{value-leaf, value-items, value-level}
 use borrow.Author.Needs.{needs}
