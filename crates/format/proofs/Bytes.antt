@@ -1,14 +1,16 @@
--- Laws of bytes: numbers read at two widths, written, read back; parts. Assumes nothing.
-use Prim.Native.Nat.{ℕ, zero, suc, _+_, _*_, _/_, _%_, _^_, _≤_, _<_}
-use mathlib.Core.Path.{_≡_, refl, ap, _∙_}
+-- Laws of bytes: numbers read at two widths, written, read back; parts, and what they are compared with. Assumes nothing.
+use Prim.Native.Nat.{ℕ, zero, suc, _+_, _*_, _/_, _%_, _^_, _≤_, _<_, min}
+use mathlib.Core.Path.{_≡_, refl, ap, _∙_, sym}
+use mathlib.Core.Bool.{Bool, true, false, false≢true}
 use mathlib.Core.List.{List, [], _∷_, _++_}
 use native.Mathlib.Omega.{arith}
 use native.Mathlib.Nat.{add-zero, zero-add, add-suc, suc-add, mul-assoc, pow-suc, pow-succ', pow-le-pow-right, div-one, div-div-eq-div-mul, div-lt-iff-lt-mul}
 use lib.ListN.{length, getD, set, take, drop, length-append, length-take, length-drop, List·getD-append}
-use lib.Seq.{sets, sets-eq, getD-append-add, getD-set-other, getD-take, getD-drop}
+use lib.Seq.{sets, sets-eq, getD-append-add, getD-set-other, getD-take, getD-drop, take-take}
 use lib.Arith.{mod-mul}
 use lib.Dec.{lit<}
-use Rattle.format.specs.Bytes.{le, leBytes, part}
+use Rattle.format.specs.Bytes.{le, leBytes, part, same, begins}
+use Rattle.format.proofs.Tests.{same-true, true-same, false-same}
 
 -- ---- parts
 
@@ -110,3 +112,24 @@ getD-sets (x ∷ xs) l i k h =
 pub le-elsewhere : (n : ℕ) (xs l : List ℕ) (i k : ℕ) → ((j : ℕ) → k ≤ j → j < k + n → i ≤ j → j < i + length xs → ⊥)
     → le n (sets l i xs) k ≡ le n l k
 le-elsewhere n xs l i k h = le-alike n (sets l i xs) l k λ j a b. getD-sets xs l i j (h j a b)
+
+-- ---- parts compared
+
+pub same-sym : (s t : List ℕ) → same s t ≡ same t s
+same-sym s t = by (same s t) refl
+  where
+    by : (b : Bool) → same s t ≡ b → b ≡ same t s
+    by true q = sym (true-same t s (sym (same-true s t q)))
+    by false q = sym (false-same t s λ e. false≢true (sym q ∙ true-same s t (sym e)))
+
+pub part-other : (s e : List ℕ) (i n : ℕ) → i + n ≤ length s → (n ≡ length e → ⊥) → same (part s i n) e ≡ false
+part-other s e i n f h = false-same (part s i n) e λ q. h (sym (part-length s i n f) ∙ ap length q)
+
+pub begins-short : (p s : List ℕ) (i n : ℕ) → i + n ≤ length s → n < length p → begins p (part s i n) ≡ false
+unfolding begins
+begins-short p s i n f h =
+    false-same p (take (length p) (part s i n)) λ e. let l : length p ≡ min (length p) n = ap length e ∙ rw (length-take, part-length s i n f) in omega arith
+
+pub begins-part : (p s : List ℕ) (i n : ℕ) → length p ≤ n → begins p (part s i n) ≡ same (part s i (length p)) p
+unfolding begins part
+begins-part p s i n h = rw take-take (same-sym p (take (length p) (drop i s)))

@@ -1,15 +1,16 @@
--- The grammar's chunk is the one that is read. Assumes nothing.
-use Prim.Native.Nat.{ℕ, _+_, _-_}
-use mathlib.Core.Path.{_≡_, refl, sym, ap, _∙_}
-use mathlib.Core.Bool.{true, not}
-use mathlib.Core.List.{List, _++_}
-use lib.Dec.{ltb, eqb}
+-- The grammar's chunk is the one that is read; each way that a chunk is refused, and its data, test by test. Assumes nothing.
+use Prim.Native.Nat.{ℕ, _+_, _-_, zero, suc, _*_, _≤_, _<_}
+use mathlib.Core.Path.{_≡_, refl, sym, ap, _∙_, ap₂}
+use mathlib.Core.Bool.{true, not, Bool, false}
+use mathlib.Core.List.{List, _++_, [], _∷_}
+use native.Mathlib.Omega.{arith}
+use lib.Dec.{ltb, eqb, lit<}
 use lib.ListN.{length, take, drop, take-append-drop}
 use lib.Seq.{take-append-seam}
-use borrow.Author.Tests.{ltb-false, le-ltb, eqb-true, eq-eqb, not-false}
+use borrow.Author.Tests.{ltb-false, lt-ltb, le-ltb, eqb-true, eq-eqb, ne-eqb, not-false}
 use Rattle.format.proofs.Tests.{same-true, true-same}
 use Rattle.format.proofs.Answers.{refuseIf-given, given-inj, not-refused, Numbered, answer, refuseIf-numbered}
-use Rattle.format.specs.Answer.{given}
+use Rattle.format.specs.Answer.{given, Answer, refused, refuseIf}
 use Rattle.format.specs.Bytes.{le, part, begins}
 use Rattle.format.specs.declared.Range.{Range}
 use Rattle.format.specs.Chunks.{chunkMark, chunkData}
@@ -66,3 +67,49 @@ module _ (name s : List ℕ) (at : ℕ) where
       (refuseIf-numbered (ltb (length s) (at + 16 + n)) 4 _ h
       (refuseIf-numbered (not (begins name (part s (at + 16) n))) 4 _ h
       (refuseIf-numbered (ltb (length s) (at + 16 + n + le 8 s (at + 8))) 4 _ h (answer {a = record { start = at + 16 + n; len = le 8 s (at + 8) }})))))
+
+-- ---- test by test
+
+-- the tests of a chunk, with its two lengths in hand
+tests : List ℕ → List ℕ → ℕ → ℕ → ℕ → Answer Range
+tests p s at n d =
+    refuseIf (ltb (length s) (at + 16)) 4
+    (refuseIf (not (eqb (le 4 s at) chunkMark)) 4
+    (refuseIf (ltb (length s) (at + 16 + n)) 4
+    (refuseIf (not (begins p (part s (at + 16) n))) 4
+    (refuseIf (ltb (length s) (at + 16 + n + d)) 4 (given (record { start = at + 16 + n; len = d }))))))
+
+module _ (p s : List ℕ) (at : ℕ) where
+  tested : tests p s at (le 4 s (at + 4)) (le 8 s (at + 8)) ≡ chunkData p s at
+  unfolding tests chunkData
+  tested = refl
+
+  pub cut-head : length s < at + 16 → refused 4 ≡ chunkData p s at
+  unfolding chunkData
+  cut-head h = rw (lt-ltb _ _ h)
+
+  module _ (h : at + 16 ≤ length s) where
+    pub wrong-mark : (le 4 s at ≡ chunkMark → ⊥) → refused 4 ≡ chunkData p s at
+    unfolding chunkData
+    wrong-mark m = rw (le-ltb _ _ h, ne-eqb _ _ m)
+
+    module _ (m : le 4 s at ≡ chunkMark) {n : ℕ} (en : n ≡ le 4 s (at + 4)) where
+      pub cut-name : length s < at + 16 + n → refused 4 ≡ chunkData p s at
+      unfolding tests refuseIf
+      cut-name l = rw (le-ltb (length s) (at + 16) h, eq-eqb (le 4 s at) chunkMark m, ← en, lt-ltb (length s) (at + 16 + n) l) at tested
+
+      module _ (l : at + 16 + n ≤ length s) where
+        pub wrong-name : begins p (part s (at + 16) n) ≡ false → refused 4 ≡ chunkData p s at
+        unfolding tests refuseIf
+        wrong-name b = rw (le-ltb (length s) (at + 16) h, eq-eqb (le 4 s at) chunkMark m, ← en, le-ltb (length s) (at + 16 + n) l, b) at tested
+
+        module _ (b : begins p (part s (at + 16) n) ≡ true) {d : ℕ} (ed : d ≡ le 8 s (at + 8)) where
+          pub cut-data : length s < at + 16 + n + d → refused 4 ≡ chunkData p s at
+          unfolding tests refuseIf
+          cut-data k =
+              rw (le-ltb (length s) (at + 16) h, eq-eqb (le 4 s at) chunkMark m, ← en, le-ltb (length s) (at + 16 + n) l, b, ← ed, lt-ltb (length s) (at + 16 + n + d) k) at tested
+
+          pub whole-chunk : at + 16 + n + d ≤ length s → given (record { start = at + 16 + n; len = d }) ≡ chunkData p s at
+          unfolding tests refuseIf
+          whole-chunk k =
+              rw (le-ltb (length s) (at + 16) h, eq-eqb (le 4 s at) chunkMark m, ← en, le-ltb (length s) (at + 16 + n) l, b, ← ed, le-ltb (length s) (at + 16 + n + d) k) at tested

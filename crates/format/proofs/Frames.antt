@@ -1,17 +1,17 @@
--- Different places of different frames: (scene, t, z) in range is found again from the frame's number. Assumes nothing.
-use Prim.Native.Nat.{ℕ, zero, _+_, _-_, _*_, _≤_, _<_}
-use mathlib.Core.Path.{_≡_, refl, sym, ap, _∙_}
-use mathlib.Core.Bool.{Bool, true, false, _||_, true≢false}
+-- Different places of different frames: (scene, t, z) in range is found again from the frame's number; a number's digits, one by one. Assumes nothing.
+use Prim.Native.Nat.{ℕ, zero, _+_, _-_, _*_, _≤_, _<_, suc, _/_, _%_, _^_}
+use mathlib.Core.Path.{_≡_, refl, sym, ap, _∙_, subst}
+use mathlib.Core.Bool.{Bool, true, false, _||_, true≢false, cond}
 use mathlib.Core.Logic.{_⊎_, inl, inr}
-use mathlib.Core.List.{List, [], _∷_}
-use native.Mathlib.Nat.{suc-mul, mul-le-mul-right, eq-or-lt-of-le}
+use mathlib.Core.List.{List, [], _∷_, _++_}
+use native.Mathlib.Nat.{suc-mul, mul-le-mul-right, eq-or-lt-of-le, pow-suc, div-lt-iff-lt-mul}
 use native.Mathlib.Decide.{decLe}
 use native.Mathlib.Omega.{arith}
 use lib.Dec.{eqb, ltb}
-use borrow.Author.Tests.{eqb-true, eqb-false, ne-eqb, eq-eqb, ltb-false, le-ltb}
+use borrow.Author.Tests.{eqb-true, eqb-false, ne-eqb, eq-eqb, ltb-false, lt-ltb, le-ltb}
 use Rattle.format.proofs.Tests.{or-left, or-right, or-none}
 use Rattle.format.specs.Loops.{hasAxis, axisNumber, mostCount}
-use Rattle.format.specs.Frames.{countOf, indexOf, seqFrom, seqIndex}
+use Rattle.format.specs.Frames.{countOf, indexOf, seqFrom, seqIndex, digitsFrom}
 use Rattle.format.specs.Summary.{badLoops}
 use Rattle.format.specs.Grammar.Loops.{Free, Distinct, Counted}
 use Rattle.format.specs.Grammar.Loops.{nil, cons}
@@ -145,3 +145,32 @@ unfolding badLoops
 loops-good [] c d = refl
 loops-good (l ∷ ls) (cons h₁ h₂ c) (cons f d) =
     or-none _ _ (or-none _ _ (or-none _ _ (ne-eqb (l .count) 0 (λ q. omega arith)) (le-ltb _ _ h₂)) (free-has (l .axis) ls f)) (loops-good ls c d)
+
+-- ---- digits
+
+pub digits-one : (f n : ℕ) (r : List ℕ) → n < 10 → digitsFrom (suc f) n r ≡ (48 + n) ∷ r
+unfolding digitsFrom
+digits-one f n r h = rw (lt-ltb _ _ h)
+
+pub digits-more : (f n : ℕ) (r : List ℕ) → 10 ≤ n → digitsFrom (suc f) n r ≡ digitsFrom f (n / 10) ((48 + n % 10) ∷ r)
+unfolding digitsFrom
+digits-more f n r h = rw (le-ltb _ _ h)
+
+pub digits-before : (f n : ℕ) (r t : List ℕ) → digitsFrom f n r ++ t ≡ digitsFrom f n (r ++ t)
+unfolding digitsFrom
+digits-before zero n r t = refl
+digits-before (suc f) n r t = by (ltb n 10) (digits-before f (n / 10) ((48 + n % 10) ∷ r) t)
+  where
+    by : (b : Bool) → digitsFrom f (n / 10) ((48 + n % 10) ∷ r) ++ t ≡ digitsFrom f (n / 10) ((48 + n % 10) ∷ (r ++ t))
+        → cond b ((48 + n) ∷ r) (digitsFrom f (n / 10) ((48 + n % 10) ∷ r)) ++ t ≡ cond b ((48 + n) ∷ (r ++ t)) (digitsFrom f (n / 10) ((48 + n % 10) ∷ (r ++ t)))
+    by true e = refl
+    by false e = e
+
+-- a number of two digits or more has a place for each
+pub two-digits : (f n : ℕ) → 10 ≤ n → n < 10 ^ f → 2 ≤ f
+two-digits zero n h l = absurd (omega arith)
+two-digits (suc zero) n h l = absurd (omega arith)
+two-digits (suc (suc f)) n h l = omega arith
+
+pub fewer-digits : (f n : ℕ) → n < 10 ^ suc f → n / 10 < 10 ^ f
+fewer-digits f n l = div-lt-iff-lt-mul {k = 10} (omega arith) .1 (rw pow-suc at l)

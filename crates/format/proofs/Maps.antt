@@ -1,20 +1,22 @@
--- The grammar's map is the one that is read. Assumes nothing.
-use Prim.Native.Nat.{ℕ, zero, suc, _+_, _-_, _≤_, _<_}
-use mathlib.Core.Path.{_≡_, refl, sym, _∙_}
-use mathlib.Core.Bool.{Bool, true, false, cond, true≢false}
+-- The grammar's map is the one that is read; the map read on from a place, and the last entry of a name; where the map's data is. Assumes nothing.
+use Prim.Native.Nat.{ℕ, zero, suc, _+_, _-_, _≤_, _<_, _*_}
+use mathlib.Core.Path.{_≡_, refl, sym, _∙_, ap, ap₂}
+use mathlib.Core.Bool.{Bool, true, false, cond, true≢false, not}
 use mathlib.Core.Option.{Option, none, some}
-use mathlib.Core.List.{List, [], _∷_}
+use mathlib.Core.List.{List, [], _∷_, _++_}
 use native.Mathlib.Omega.{arith}
-use lib.Dec.{ltb, eqb}
-use lib.ListN.{length, getD, drop, length-drop}
+use lib.Dec.{ltb, eqb, lit<}
+use lib.ListN.{length, getD, drop, length-drop, take}
 use lib.Seq.{getD-drop}
-use borrow.Author.Tests.{ltb-false, le-ltb, eqb-true, eqb-false, eq-eqb, ne-eqb}
+use borrow.Author.Tests.{ltb-false, lt-ltb, le-ltb, eqb-true, eqb-false, eq-eqb, ne-eqb}
 use Rattle.format.proofs.Tests.{same-true, true-same, false-same}
-use Rattle.format.proofs.Answers.{refused≢given, refuseIf-given, andThen-given, given-inj, not-refused, go-on, none≢some, Numbered, answer, refusal, refuseIf-numbered, andThen-numbered}
-use Rattle.format.specs.Answer.{Answer, refused, given}
-use Rattle.format.specs.Bytes.{part, same}
+use Rattle.format.proofs.Answers.{refused≢given, refuseIf-given, andThen-given, given-inj, not-refused, go-on, none≢some, Numbered, answer, refusal, refuseIf-numbered, andThen-numbered, NotZero}
+use Rattle.format.specs.Answer.{Answer, refused, given, refuseIf, andThen}
+use Rattle.format.specs.Bytes.{part, same, le}
+use Rattle.format.specs.Map.{MapEntry, later as laterOf, offsetOf, through, endMark, mostEntries, throughMark, entryThen, mapStep, mapFrom, mapEntries, prepend, mapRange, mapName}
+use Rattle.format.specs.Chunks.{chunkMark, chunkData}
+use Rattle.format.specs.declared.Range.{Range}
 use Rattle.format.specs.Refusals as why
-use Rattle.format.specs.Map.{MapEntry, later as laterOf, offsetOf, through, endMark, mostEntries, throughMark, entryThen, mapStep, mapFrom, mapEntries}
 use Rattle.format.specs.Grammar.Map.{Name, Entries, ended, entry, MapOf, Unlisted, Listed, last, later}
 use Rattle.format.specs.Grammar.Map.{nil, cons}
 
@@ -190,3 +192,111 @@ pub read-listed : (m name : List ℕ) (es : List MapEntry) (o : ℕ) → Listed 
 unfolding offsetOf
 read-listed m name es o (last {e = x} {es = fs} h u) = rw (read-unlisted m name fs u, true-same _ _ h) refl
 read-listed m name es o (later {es = fs} l) = rw (read-listed m name fs o l) refl
+
+-- ---- read on from a place
+
+-- how many bytes there are through the first '!'
+module _ (m : List ℕ) (at : ℕ) where
+  pub through-name : (k : ℕ) → Name m at k → throughMark (drop at m) ≡ some (suc k)
+  through-name k n = first-through (drop at m) k (name-first m at k n)
+
+  pub through-none : ((k : ℕ) → Name m at k → ⊥) → throughMark (drop at m) ≡ none
+  through-none h = by (throughMark (drop at m)) refl
+    where
+      by : (r : Option ℕ) → throughMark (drop at m) ≡ r → r ≡ none
+      by none q = refl
+      by (some n) q = let (k, _, f) = through-first (drop at m) n q in absurd (h k (first-name m at k f))
+
+pub map-none : (room : ℕ) (m : List ℕ) (i : ℕ) → throughMark (drop i m) ≡ none → mapFrom room m i ≡ refused 5
+unfolding mapFrom mapStep
+map-none zero m i h = rw h
+map-none (suc room) m i h = rw h
+
+module _ (m : List ℕ) (i n : ℕ) (h : throughMark (drop i m) ≡ some n) where
+  pub map-end : (room : ℕ) → same (part m i n) endMark ≡ true → mapFrom room m i ≡ given []
+  unfolding mapFrom mapStep entryThen
+  map-end zero e = rw (h, e)
+  map-end (suc room) e = rw (h, e)
+
+  module _ (e : same (part m i n) endMark ≡ false) where
+    pub map-full : mapFrom 0 m i ≡ refused 5
+    unfolding mapFrom mapStep entryThen
+    map-full = rw (h, e)
+
+    pub map-cut : (room : ℕ) → length m < i + n + 16 → mapFrom room m i ≡ refused 5
+    unfolding mapFrom mapStep entryThen refuseIf
+    map-cut zero l = rw (h, e)
+    map-cut (suc room) l = rw (h, e, lt-ltb _ _ l)
+
+    pub map-entry : (room : ℕ) → i + n + 16 ≤ length m
+        → mapFrom (suc room) m i
+        ≡ andThen (mapFrom room m (i + n + 16)) (prepend (record { nameAt = i; nameLen = n; offset = le 8 m (i + n); size = le 8 m (i + n + 8) }))
+    unfolding mapFrom mapStep entryThen refuseIf
+    map-entry room l = rw (h, e, le-ltb (length m) (i + n + 16) l)
+
+-- the offset of the last entry of a name among entries, or the one that came before them
+unfoldable pub orLast : Option ℕ → Option ℕ → Option ℕ
+orLast (some o) l = some o
+orLast none l = l
+
+unfoldable pub lastOf : List ℕ → List ℕ → Option ℕ → Answer (List MapEntry) → Answer (Option ℕ)
+unfolding orLast
+lastOf m name l (refused n) = refused n
+lastOf m name l (given es) = given (orLast (offsetOf m name es) l)
+
+pub last-start : (m name : List ℕ) (a : Answer (List MapEntry)) → (andThen a λ es. given (offsetOf m name es)) ≡ lastOf m name none a
+unfolding lastOf andThen
+last-start m name (refused n) = refl
+last-start m name (given es) = ap given (by (offsetOf m name es))
+  where
+    by : (o : Option ℕ) → o ≡ orLast o none
+    by none = refl
+    by (some o) = refl
+
+-- what an entry gives for a name
+abbrev pub gives : Bool → ℕ → Option ℕ → Option ℕ
+gives true o l = some o
+gives false o l = l
+
+pub last-entry : (m name : List ℕ) (e : MapEntry) (l : Option ℕ) (a : Answer (List MapEntry))
+    → lastOf m name l (andThen a (prepend e)) ≡ lastOf m name (gives (same (part m (e .nameAt) (e .nameLen)) name) (e .offset) l) a
+unfolding lastOf andThen prepend offsetOf laterOf
+last-entry m name e l (refused n) = refl
+last-entry m name e l (given es) = ap given (by (offsetOf m name es) (same (part m (e .nameAt) (e .nameLen)) name))
+  where
+    by : (o : Option ℕ) (b : Bool) → orLast (laterOf o (cond b (some (e .offset)) none)) l ≡ orLast o (gives b (e .offset) l)
+    by (some o) b = refl
+    by none true = refl
+    by none false = refl
+
+-- ---- where the map's data is
+
+module _ (s : List ℕ) where
+  pub range-short : length s < 4 → refused 1 ≡ mapRange s
+  unfolding mapRange refuseIf
+  range-short h = rw (lt-ltb _ _ h)
+
+  module _ (h : 4 ≤ length s) where
+    pub range-old : le 4 s 0 ≡ 0x0C000000 → refused 2 ≡ mapRange s
+    unfolding mapRange refuseIf
+    range-old e = rw (le-ltb _ _ h, eq-eqb _ _ e)
+
+    module _ (o : le 4 s 0 ≡ 0x0C000000 → ⊥) where
+      pub range-other : (le 4 s 0 ≡ chunkMark → ⊥) → refused 1 ≡ mapRange s
+      unfolding mapRange refuseIf
+      range-other e = rw (le-ltb _ _ h, ne-eqb _ _ o, ne-eqb _ _ e)
+
+      module _ (m : le 4 s 0 ≡ chunkMark) where
+        pub range-bare : length s < 40 → refused 3 ≡ mapRange s
+        unfolding mapRange refuseIf
+        range-bare l = rw (le-ltb _ _ h, ne-eqb _ _ o, eq-eqb _ _ m, lt-ltb _ _ l)
+
+        module _ (l : 40 ≤ length s) where
+          pub range-none : same (part s (length s - 40) 32) endMark ≡ false → refused 3 ≡ mapRange s
+          unfolding mapRange refuseIf
+          range-none e = rw (le-ltb _ _ h, ne-eqb _ _ o, eq-eqb _ _ m, le-ltb _ _ l, e)
+
+          pub range-chunk : same (part s (length s - 40) 32) endMark ≡ true → {a : Answer Range} {k : ℕ} → k ≡ le 8 s (length s - 8)
+              → a ≡ chunkData mapName s k → a ≡ mapRange s
+          unfolding mapRange refuseIf
+          range-chunk e q r = rw (le-ltb _ _ h, ne-eqb _ _ o, eq-eqb _ _ m, le-ltb _ _ l, e, ← q) r

@@ -1,0 +1,75 @@
+-- Bytes compared part by part, in any order: the parts joined, and the answer. Assumes nothing.
+use Prim.Native.Nat.{ℕ, _+_, _≤_, _<_}
+use mathlib.Core.Path.{_≡_, refl, sym, ap, _∙_}
+use mathlib.Core.Bool.{Bool, true, false, _&&_, true≢false, false≢true}
+use mathlib.Core.List.{List}
+use native.Mathlib.Omega.{arith}
+use native.Mathlib.Nat.{add-assoc}
+use lib.Dec.{eqb, ltb}
+use lib.ListN.{length, getD}
+use lib.Seq.{ext-getD}
+use borrow.Author.Tests.{eqb-true, eqb-false, ltb-true, ltb-false}
+use Rattle.format.specs.Bytes.{part, same}
+use Rattle.format.proofs.Bytes.{part-length, part-at}
+use Rattle.format.proofs.Tests.{same-true, true-same}
+use Rattle.chunk.specs.Alike.{Alike, Tells}
+
+module _ {s : List ℕ} {at : ℕ} {e : List ℕ} where
+  pub alike-none : (i n : ℕ) → n ≤ i → Alike s at e i n
+  alike-none i n h = record { equal = λ k l m. absurd (omega arith) }
+
+  pub alike-one : (n : ℕ) → getD s (at + n) 0 ≡ getD e n 0 → Alike s at e n (n + 1)
+  alike-one n q = record { equal = λ k l m. let z : k ≡ n = omega arith in rw z q }
+
+  pub differ-one : (n : ℕ) → (getD s (at + n) 0 ≡ getD e n 0 → ⊥) → Alike s at e n (n + 1) → ⊥
+  differ-one n q a = q (a .equal n (omega arith) (omega arith))
+
+  pub alike-join : {a b c d : ℕ} → Alike s at e a b → Alike s at e c d → c ≤ b → Alike s at e a d
+  alike-join {a} {b} {c} {d} f g h = record { equal = λ k l m. by k l m (ltb k b) refl }
+    where
+      by : (k : ℕ) → k < d → a ≤ k → (t : Bool) → ltb k b ≡ t → getD s (at + k) 0 ≡ getD e k 0
+      by k l m true q = f .equal k (ltb-true k b q) m
+      by k l m false q = let o = ltb-false k b q in g .equal k l (omega arith)
+
+  pub narrow : {a b c d : ℕ} → Alike s at e a b → a ≤ c → d ≤ b → Alike s at e c d
+  narrow f h j = record { equal = λ k l m. f .equal k (omega arith) (omega arith) }
+
+  -- a part decides: where it differs, the whole does, and where the rest is alike, as it does
+  pub differs : {a b c d : ℕ} → (Alike s at e c d → ⊥) → a ≤ c → d ≤ b → Tells false (Alike s at e a b)
+  differs f h j = record { yes = λ q. absurd (false≢true q); no = λ q g. f (narrow g h j) }
+
+  pub tells-join : {t : Bool} {a n i m : ℕ} → Tells t (Alike s at e a n) → Alike s at e i m → i ≤ n → n ≤ m → Tells t (Alike s at e a m)
+  tells-join f g h j = record { yes = λ q. alike-join (f .yes q) g h; no = λ q w. f .no q (narrow w (omega arith) j) }
+
+  pub tells-none : (i n : ℕ) → n ≤ i → Tells true (Alike s at e i n)
+  tells-none i n h = record { yes = λ q. alike-none i n h; no = λ q. absurd (true≢false q) }
+
+  -- one byte more
+  pub tells-more : (t : Bool) (i j : ℕ) → Tells t (Alike s at e i (i + j))
+      → Tells (t && eqb (getD s (at + i + j) 0) (getD e (i + j) 0)) (Alike s at e i (i + (j + 1)))
+  tells-more true i j f =
+      let z : i + (j + 1) ≡ i + j + 1 = omega arith in
+      rw (add-assoc at i j, z)
+      (record {
+        yes = λ q. alike-join (f .yes refl) (alike-one (i + j) (eqb-true _ _ q)) (omega arith);
+        no = λ q w. eqb-false _ _ q (w .equal (i + j) (omega arith) (omega arith));
+      })
+  tells-more false i j f = differs (f .no refl) (omega arith) (omega arith)
+
+  pub told : {t : Bool} → at + length e ≤ length s → Tells t (Alike s at e 0 (length e)) → t ≡ same (part s at (length e)) e
+  told {t} f h = by (same (part s at (length e)) e) refl t h
+    where
+      q : length (part s at (length e)) ≡ length e
+      q = part-length s at (length e) f
+
+      alike : part s at (length e) ≡ e → Alike s at e 0 (length e)
+      alike z = record { equal = λ k l m. sym (part-at s at (length e) k l) ∙ ap (λ (x : List ℕ). getD x k 0) z }
+
+      equals : Alike s at e 0 (length e) → part s at (length e) ≡ e
+      equals a = ext-getD 0 (part s at (length e)) e q λ k o. let l : k < length e = omega (arith, q) in part-at s at (length e) k l ∙ a .equal k l (omega arith)
+
+      by : (b : Bool) → same (part s at (length e)) e ≡ b → (t : Bool) → Tells t (Alike s at e 0 (length e)) → t ≡ b
+      by true z true g = refl
+      by false z false g = refl
+      by true z false g = absurd (g .no refl (alike (same-true _ _ z)))
+      by false z true g = absurd (false≢true (sym z ∙ true-same _ _ (equals (g .yes refl))))

@@ -1,0 +1,4 @@
+pub mod Comparing
+pub mod Marks
+pub mod Scan
+pub mod Decimal

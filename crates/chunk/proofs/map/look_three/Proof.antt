@@ -1,0 +1,112 @@
+-- As a pass for one name, three times.
+use Prim.Native.Nat.{_-_}
+use native.Mathlib.Omega.{arith}
+use borrow.Author.Needs.{needs}
+use denote.Ref.{now}
+use lib.ListN.{length}
+use Rattle.chunk.specs.Scan.{Entry}
+use Rattle.chunk.proofs.Scan.{Scanned, scan-start, scan-broken, scan-end, scan-on}
+use Rattle.chunk.proofs.map.look_three.Statement.{statement}
+use Rattle.chunk.proofs.map.look_three.Tie as tie
+
+abbrev Inv-loop : tie.InvT-loop
+Inv-loop map a b c at₀ entries₀ x₀ y₀ z₀ at entries x y z = Scanned map a at entries x × Scanned map b at entries y × Scanned map c at entries z
+
+abbrev μ-loop : tie.MeasureT-loop
+μ-loop map a b c at₀ entries₀ x₀ y₀ z₀ at entries x y z = length map - at
+
+-- what the entry that stands next is
+entry : (c : tie.After-n Inv-loop μ-loop)
+    → Entry (now (c .before .before .before .before .before .before .before .before .args .map)) (c .before .before .before .loop .at) (c .before .before .before .loop .entries) (c .n .given .0 .0)
+entry c = rw (c .n .given .1) at (c .before .before .next-entry .ensures)
+
+loop-holds : tie.Need-loop-holds Inv-loop μ-loop
+loop-holds c = (scan-start _ _, scan-start _ _, scan-start _ _)
+
+next-entry-requires : tie.Need-next-entry-requires Inv-loop μ-loop
+next-entry-requires c κs = search needs
+
+enum-known-n : tie.Need-enum-known-n Inv-loop μ-loop
+enum-known-n c = search needs
+
+offset-of-requires : tie.Need-offset-of-requires Inv-loop μ-loop
+offset-of-requires c κs = entry (c .before) .inside
+
+later-requires : tie.Need-later-requires Inv-loop μ-loop
+later-requires c κs = search needs
+
+offset-of-requires-2 : tie.Need-offset-of-requires-2 Inv-loop μ-loop
+offset-of-requires-2 c κs = entry (c .before .before .before) .inside
+
+later-requires-2 : tie.Need-later-requires-2 Inv-loop μ-loop
+later-requires-2 c κs = search needs
+
+offset-of-requires-3 : tie.Need-offset-of-requires-3 Inv-loop μ-loop
+offset-of-requires-3 c κs = entry (c .before .before .before .before .before) .inside
+
+later-requires-3 : tie.Need-later-requires-3 Inv-loop μ-loop
+later-requires-3 c κs = search needs
+
+add-at : tie.Need-add-at Inv-loop μ-loop
+add-at c = omega (arith, (entry (c .before .before .before .before .before .before .before)) .inside)
+
+add-at-2 : tie.Need-add-at-2 Inv-loop μ-loop
+add-at-2 c = omega (arith, (entry (c .before .before .before .before .before .before .before)) .inside)
+
+add-entries : tie.Need-add-entries Inv-loop μ-loop
+add-entries c = omega (arith, (entry (c .before .before .before .before .before .before .before)) .free)
+
+loop-less : tie.Need-loop-less Inv-loop μ-loop
+loop-less c = omega (arith, (entry (c .before .before .before .before .before .before .before)) .inside)
+
+loop-again : tie.Need-loop-again Inv-loop μ-loop
+loop-again c =
+    let e = entry (c .before .before .before .before .before .before .before) in
+    let h = c .before .before .before .before .before .before .before .before .before .before .loop .inv in (
+      scan-on (h .0) e (c .before .before .before .before .later .ensures) (c .before .before .before .before .before .offset-of .ensures),
+      scan-on (h .1) e (c .before .before .later2 .ensures) (c .before .before .before .offset-of2 .ensures),
+      scan-on (h .2) e (c .later3 .ensures) (c .before .offset-of3 .ensures),
+    )
+
+enum-told : tie.Need-enum-told Inv-loop μ-loop
+enum-told c = search needs
+
+returns : tie.Need-returns Inv-loop μ-loop
+returns c =
+    let h = c .before .before .before .loop .inv in
+    let e = rw (c .enum-told .given .1) at (c .before .before .next-entry .ensures) in
+    (scan-end (h .0) e, scan-end (h .1) e, scan-end (h .2) e)
+
+enum-told-2 : tie.Need-enum-told-2 Inv-loop μ-loop
+enum-told-2 c = search needs
+
+returns-2 : tie.Need-returns-2 Inv-loop μ-loop
+returns-2 c =
+    let h = c .before .before .before .loop .inv in
+    let e = rw (c .enum-told2 .given .1) at (c .before .before .next-entry .ensures) in
+    (scan-broken (h .0) e, scan-broken (h .1) e, scan-broken (h .2) e)
+
+pub look-three-spec : {M : Type 1} → statement M
+look-three-spec =
+    tie.close
+    (tie.spec
+    Inv-loop
+    μ-loop
+    loop-holds
+    next-entry-requires
+    enum-known-n
+    offset-of-requires
+    later-requires
+    offset-of-requires-2
+    later-requires-2
+    offset-of-requires-3
+    later-requires-3
+    add-at
+    add-at-2
+    add-entries
+    loop-less
+    loop-again
+    enum-told
+    returns
+    enum-told-2
+    returns-2)

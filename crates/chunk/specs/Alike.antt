@@ -1,0 +1,15 @@
+-- Bytes that are compared.
+use Prim.Native.Nat.{ℕ, _+_, _≤_, _<_}
+use mathlib.Core.Path.{_≡_}
+use mathlib.Core.Bool.{Bool, true, false}
+use mathlib.Core.List.{List}
+use lib.ListN.{getD}
+
+-- the bytes of e from i up to n stand in s as far from `at`
+pub record Alike (s : List ℕ) (at : ℕ) (e : List ℕ) (i n : ℕ) : Type 0 where
+  pub equal : (k : ℕ) → k < n → i ≤ k → getD s (at + k) 0 ≡ getD e k 0
+
+-- b tells whether P holds
+pub record Tells (b : Bool) (P : Type 0) : Type 0 where
+  pub yes : b ≡ true → P
+  pub no : b ≡ false → P → ⊥

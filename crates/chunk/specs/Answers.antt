@@ -1,0 +1,56 @@
+-- What each answer of this crate stands for: document 01's number, or the value.
+use Prim.Native.Nat.{ℕ, _+_, _≤_}
+use mathlib.Core.Bool.{Bool, true, false}
+use mathlib.Core.Option.{Option, none, some}
+use mathlib.Core.List.{List}
+use lib.ListN.{length}
+use Rattle.format.specs.Answer.{Answer, given, refused, andThen}
+use Rattle.format.specs.Refusals as why
+use Rattle.format.specs.Map.{mapEntries, offsetOf}
+use Rattle.format.specs.declared.Range.{Range}
+use Rattle.chunk.specs.declared.ChunkData.{ChunkData}
+use Rattle.chunk.specs.declared.ChunkData.the-variants.{Data, Bad}
+use Rattle.chunk.specs.declared.MapPlace.{MapPlace}
+use Rattle.chunk.specs.declared.MapPlace.the-variants.{Place, Refused}
+use Rattle.chunk.specs.declared.map.Lookup.{Lookup}
+use Rattle.chunk.specs.declared.map.Lookup.the-variants.{At, Absent, Broken}
+
+-- a chunk's data
+abbrev pub dataOf : ChunkData → Answer Range
+dataOf (Data r) = given r
+dataOf Bad = refused why.chunk
+
+-- the data ends in the file
+abbrev pub DataIn : List ℕ → ChunkData → Type 0
+DataIn s (Data r) = r .start + r .len ≤ length s
+DataIn s Bad = Unit
+
+-- the map's data
+abbrev pub placeOf : MapPlace → Answer Range
+placeOf (Place r) = given r
+placeOf (Refused n) = refused n
+
+abbrev pub PlaceIn : List ℕ → MapPlace → Type 0
+PlaceIn s (Place r) = r .start + r .len ≤ length s
+PlaceIn s (Refused n) = Unit
+
+-- what the map has under a name: the last entry's offset, if there is one
+abbrev pub lookupOf : Lookup → Answer (Option ℕ)
+lookupOf (At o) = given (some o)
+lookupOf Absent = given none
+lookupOf Broken = refused why.map
+
+-- the map's refusal, or what its last entry of a name gives
+unfoldable pub findIn : List ℕ → List ℕ → Answer (Option ℕ)
+findIn m name = andThen (mapEntries m) λ es. given (offsetOf m name es)
+
+-- what an entry gives for a name, that it bears or not
+abbrev pub givesOf : Bool → ℕ → Lookup
+givesOf true o = At o
+givesOf false o = Absent
+
+-- the second of two answers, or the first where that is absent
+abbrev pub laterOf : Lookup → Lookup → Lookup
+laterOf first (At o) = At o
+laterOf first Absent = first
+laterOf first Broken = Broken

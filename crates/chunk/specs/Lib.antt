@@ -1,0 +1,4 @@
+pub mod Answers
+pub mod Alike
+pub mod Scan
+pub mod Spelling
