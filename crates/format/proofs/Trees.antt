@@ -54,7 +54,7 @@ units-more : (d : List ℕ) (v n : ℕ) → (le 2 d v ≡ 0 → ⊥) → Units d
 units-more d v n f u zero h e = let q : v + 2 * 0 ≡ v = omega arith in f (rw q at e)
 units-more d v n f u (suc j) h e = let q : v + 2 * suc j ≡ v + 2 + 2 * j = omega arith in u j (omega arith) (rw q at e)
 
-text-count : (n m : ℕ) (d : List ℕ) (v : ℕ) → Units d v n → n ≤ m → (n < m → le 2 d (v + 2 * n) ≡ 0) → textUnits (units m d v) ≡ n
+pub text-count : (n m : ℕ) (d : List ℕ) (v : ℕ) → Units d v n → n ≤ m → (n < m → le 2 d (v + 2 * n) ≡ 0) → textUnits (units m d v) ≡ n
 unfolding textUnits units
 text-count zero zero d v u h z = refl
 text-count (suc n) zero d v u h z = absurd (omega arith)
@@ -416,10 +416,10 @@ module _ (d : List ℕ) (base : ℕ) where
 
 -- ---- records whose type and name pass have entries
 
-abbrev SomeEntry : Read → Type 0
+abbrev pub SomeEntry : Read → Type 0
 SomeEntry r = 1 ≤ length (r .entries)
 
-then-more : (r : Read) (k : ℕ → ℕ → Read) → length (r .entries) ≤ length (then r k .entries)
+pub then-more : (r : Read) (k : ℕ → ℕ → Read) → length (r .entries) ≤ length (then r k .entries)
 unfolding follow
 then-more r k = go (r .entries) (r .stop)
   where
@@ -432,7 +432,7 @@ unfolding childrenOr9
 kids-some none count from to entry e = omega arith
 kids-some (some f) count from to entry e = omega arith
 
-value-some : (d : List ℕ) (c : Children) (k start v e : ℕ) (entry : ℕ → ℕ → Entry) → SomeEntry (value d c k start v e entry)
+pub value-some : (d : List ℕ) (c : Children) (k start v e : ℕ) (entry : ℕ → ℕ → Entry) → SomeEntry (value d c k start v e entry)
 unfolding value levelValue bytesValue textValue fixedValue
 value-some d c k start v e entry =
     pick-by SomeEntry (eqb k 11) _ _ (λ q.
@@ -449,7 +449,7 @@ value-some d c k start v e entry =
     one = omega arith
 
 module _ (d : List ℕ) (base : ℕ) where
-  records-step : (c : ChildrenAt) (parent count used i e : ℕ) → i + 2 ≤ e
+  pub records-step : (c : ChildrenAt) (parent count used i e : ℕ) → i + 2 ≤ e
       → records d base c parent (suc count) used i e ≡ then (recordAt d base c parent used i e) (λ n p. records d base c parent count (used + n) p e)
   unfolding records
   records-step c parent count used i e h = passed _ _ (ltb e (i + 2)) _ (le-ltb e (i + 2) h) refl

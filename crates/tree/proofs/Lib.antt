@@ -1,0 +1,4 @@
+pub mod Back
+pub mod Answers
+pub mod Runs
+pub mod Whole

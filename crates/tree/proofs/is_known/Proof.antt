@@ -1,0 +1,12 @@
+-- `tree::is_known` tells the types that the format knows.
+use borrow.Author.Needs.{needs}
+use Rattle.format.specs.Trees.{known}
+use Rattle.tree.proofs.is_known.Statement.{statement}
+use Rattle.tree.proofs.is_known.Tie as tie
+
+returns : tie.Need-returns
+unfolding known
+returns c = search needs
+
+pub is-known-spec : {M : Type 1} → statement M
+is-known-spec = tie.close (tie.spec returns)
