@@ -1,6 +1,6 @@
 -- Laws of bytes: numbers read at two widths, written, read back; parts, and what they are compared with. Assumes nothing.
-use Prim.Native.Nat.{ℕ, zero, suc, _+_, _*_, _/_, _%_, _^_, _≤_, _<_, min}
-use mathlib.Core.Path.{_≡_, refl, ap, _∙_, sym}
+use Prim.Native.Nat.{ℕ, min, zero, suc, _+_, _*_, _/_, _%_, _^_, _≤_, _<_}
+use mathlib.Core.Path.{_≡_, refl, sym, ap, _∙_}
 use mathlib.Core.Bool.{Bool, true, false, false≢true}
 use mathlib.Core.List.{List, [], _∷_, _++_}
 use native.Mathlib.Omega.{arith}
@@ -11,18 +11,6 @@ use lib.Arith.{mod-mul}
 use lib.Dec.{lit<}
 use Rattle.format.specs.Bytes.{le, leBytes, part, same, begins}
 use Rattle.format.proofs.Tests.{same-true, true-same, false-same}
-
--- ---- parts
-
-pub part-length : (s : List ℕ) (i n : ℕ) → i + n ≤ length s → length (part s i n) ≡ n
-unfolding part
-part-length s i n h = simp (length-take, length-drop) (omega arith)
-
-pub part-at : (s : List ℕ) (i n k : ℕ) → k < n → getD (part s i n) k 0 ≡ getD s (i + k) 0
-unfolding part
-part-at s i n k h = rw (getD-take, getD-drop)
-
--- ---- numbers
 
 pub le-one : (s : List ℕ) (i : ℕ) → le 1 s i ≡ getD s i 0
 unfolding le
@@ -112,6 +100,16 @@ getD-sets (x ∷ xs) l i k h =
 pub le-elsewhere : (n : ℕ) (xs l : List ℕ) (i k : ℕ) → ((j : ℕ) → k ≤ j → j < k + n → i ≤ j → j < i + length xs → ⊥)
     → le n (sets l i xs) k ≡ le n l k
 le-elsewhere n xs l i k h = le-alike n (sets l i xs) l k λ j a b. getD-sets xs l i j (h j a b)
+
+-- ---- parts
+
+pub part-length : (s : List ℕ) (i n : ℕ) → i + n ≤ length s → length (part s i n) ≡ n
+unfolding part
+part-length s i n h = simp (length-take, length-drop) (omega arith)
+
+pub part-at : (s : List ℕ) (i n k : ℕ) → k < n → getD (part s i n) k 0 ≡ getD s (i + k) 0
+unfolding part
+part-at s i n k h = rw (getD-take, getD-drop)
 
 -- ---- parts compared
 

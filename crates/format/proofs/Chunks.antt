@@ -1,16 +1,15 @@
 -- The grammar's chunk is the one that is read; each way that a chunk is refused, and its data, test by test. Assumes nothing.
-use Prim.Native.Nat.{ℕ, _+_, _-_, zero, suc, _*_, _≤_, _<_}
-use mathlib.Core.Path.{_≡_, refl, sym, ap, _∙_, ap₂}
-use mathlib.Core.Bool.{true, not, Bool, false}
-use mathlib.Core.List.{List, _++_, [], _∷_}
-use native.Mathlib.Omega.{arith}
-use lib.Dec.{ltb, eqb, lit<}
+use Prim.Native.Nat.{ℕ, _+_, _-_, _≤_, _<_}
+use mathlib.Core.Path.{_≡_, refl, sym, ap, _∙_}
+use mathlib.Core.Bool.{true, false, not}
+use mathlib.Core.List.{List, _++_}
+use lib.Dec.{ltb, eqb}
 use lib.ListN.{length, take, drop, take-append-drop}
 use lib.Seq.{take-append-seam}
 use borrow.Author.Tests.{ltb-false, lt-ltb, le-ltb, eqb-true, eq-eqb, ne-eqb, not-false}
 use Rattle.format.proofs.Tests.{same-true, true-same}
 use Rattle.format.proofs.Answers.{refuseIf-given, given-inj, not-refused, Numbered, answer, refuseIf-numbered}
-use Rattle.format.specs.Answer.{given, Answer, refused, refuseIf}
+use Rattle.format.specs.Answer.{Answer, refused, given, refuseIf}
 use Rattle.format.specs.Bytes.{le, part, begins}
 use Rattle.format.specs.declared.Range.{Range}
 use Rattle.format.specs.Chunks.{chunkMark, chunkData}

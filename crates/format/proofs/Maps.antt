@@ -1,22 +1,22 @@
 -- The grammar's map is the one that is read; the map read on from a place, and the last entry of a name; where the map's data is. Assumes nothing.
-use Prim.Native.Nat.{ℕ, zero, suc, _+_, _-_, _≤_, _<_, _*_}
-use mathlib.Core.Path.{_≡_, refl, sym, _∙_, ap, ap₂}
-use mathlib.Core.Bool.{Bool, true, false, cond, true≢false, not}
+use Prim.Native.Nat.{ℕ, zero, suc, _+_, _-_, _≤_, _<_}
+use mathlib.Core.Path.{_≡_, refl, sym, ap, _∙_}
+use mathlib.Core.Bool.{Bool, true, false, cond, true≢false}
 use mathlib.Core.Option.{Option, none, some}
-use mathlib.Core.List.{List, [], _∷_, _++_}
+use mathlib.Core.List.{List, [], _∷_}
 use native.Mathlib.Omega.{arith}
-use lib.Dec.{ltb, eqb, lit<}
-use lib.ListN.{length, getD, drop, length-drop, take}
+use lib.Dec.{ltb, eqb}
+use lib.ListN.{length, getD, drop, length-drop}
 use lib.Seq.{getD-drop}
 use borrow.Author.Tests.{ltb-false, lt-ltb, le-ltb, eqb-true, eqb-false, eq-eqb, ne-eqb}
 use Rattle.format.proofs.Tests.{same-true, true-same, false-same}
-use Rattle.format.proofs.Answers.{refused≢given, refuseIf-given, andThen-given, given-inj, not-refused, go-on, none≢some, Numbered, answer, refusal, refuseIf-numbered, andThen-numbered, NotZero}
+use Rattle.format.proofs.Answers.{refused≢given, refuseIf-given, andThen-given, given-inj, not-refused, go-on, none≢some, Numbered, answer, refusal, refuseIf-numbered, andThen-numbered}
 use Rattle.format.specs.Answer.{Answer, refused, given, refuseIf, andThen}
-use Rattle.format.specs.Bytes.{part, same, le}
-use Rattle.format.specs.Map.{MapEntry, later as laterOf, offsetOf, through, endMark, mostEntries, throughMark, entryThen, mapStep, mapFrom, mapEntries, prepend, mapRange, mapName}
+use Rattle.format.specs.Refusals as why
+use Rattle.format.specs.Bytes.{le, part, same}
+use Rattle.format.specs.Map.{MapEntry, later as laterOf, offsetOf, through, prepend, endMark, mostEntries, throughMark, entryThen, mapStep, mapFrom, mapEntries, mapRange, mapName}
 use Rattle.format.specs.Chunks.{chunkMark, chunkData}
 use Rattle.format.specs.declared.Range.{Range}
-use Rattle.format.specs.Refusals as why
 use Rattle.format.specs.Grammar.Map.{Name, Entries, ended, entry, MapOf, Unlisted, Listed, last, later}
 use Rattle.format.specs.Grammar.Map.{nil, cons}
 
