@@ -3,7 +3,7 @@ use Prim.Native.Nat.{ℕ, zero, suc, _+_, _-_, _≤_, _<_}
 use mathlib.Core.Path.{_≡_, refl, sym, ap, _∙_}
 use mathlib.Core.Bool.{Bool, true, false, cond, true≢false}
 use mathlib.Core.Option.{Option, none, some}
-use mathlib.Core.List.{List, [], _∷_}
+use mathlib.Core.List.{List, [], _∷_, _++_}
 use native.Mathlib.Omega.{arith}
 use lib.Dec.{ltb, eqb}
 use lib.ListN.{length, getD, drop, length-drop}
@@ -268,6 +268,24 @@ last-entry m name e l (given es) = ap given (by (offsetOf m name es) (same (part
     by (some o) b = refl
     by none true = refl
     by none false = refl
+
+-- what the last entry has for a name
+pub offset-last : (m name : List ℕ) (es : List MapEntry) (e : MapEntry)
+    → offsetOf m name (es ++ e ∷ []) ≡ gives (same (part m (e .nameAt) (e .nameLen)) name) (e .offset) (offsetOf m name es)
+unfolding offsetOf
+offset-last m name [] e = by (same (part m (e .nameAt) (e .nameLen)) name)
+  where
+    by : (b : Bool) → cond b (some (e .offset)) none ≡ gives b (e .offset) none
+    by true = refl
+    by false = refl
+offset-last m name (x ∷ es) e = rw (offset-last m name es e) (by (same (part m (e .nameAt) (e .nameLen)) name) (offsetOf m name es))
+  where
+    first : Option ℕ
+    first = cond (same (part m (x .nameAt) (x .nameLen)) name) (some (x .offset)) none
+
+    by : (b : Bool) (o : Option ℕ) → laterOf (gives b (e .offset) o) first ≡ gives b (e .offset) (laterOf o first)
+    by true o = refl
+    by false o = refl
 
 -- ---- where the map's data is
 

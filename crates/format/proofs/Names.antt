@@ -3,10 +3,12 @@ use Prim.Native.Nat.{ℕ, zero, suc, _+_, _-_, _*_, _/_, _%_, _^_, _≤_, _<_}
 use mathlib.Core.Path.{_≡_, refl, sym, ap, _∙_}
 use mathlib.Core.Bool.{Bool, true, false, cond}
 use mathlib.Core.List.{List, [], _∷_, _++_, append-assoc, append-nil}
-use native.Mathlib.Nat.{mul-le-mul, pow-succ', pow-le-pow-right}
+use mathlib.Core.Logic.{_⊎_, inl, inr}
+use native.Mathlib.Nat.{mul-le-mul, pow-succ', pow-le-pow-right, eq-or-lt-of-le}
 use native.Mathlib.Omega.{arith}
 use lib.Dec.{ltb}
-use lib.ListN.{length, drop, length-take}
+use lib.ListN.{length, getD, drop, length-take, length-append, List·getD-append}
+use lib.Seq.{getD-append-add}
 use borrow.Author.Tests.{ltb-true, ltb-false, lt-ltb}
 use Rattle.format.proofs.Frames.{seq-different}
 use Rattle.format.proofs.Triples.{seq-below}
@@ -25,16 +27,35 @@ use Rattle.format.specs.declared.Summary.{Summary}
 -- ---- decimal digits
 
 -- the number that decimal digits stand for, after a
-number : ℕ → List ℕ → ℕ
+unfoldable pub number : ℕ → List ℕ → ℕ
 number a [] = a
 number a (c ∷ cs) = number (a * 10 + (c - 48)) cs
 
-decimal-number : {n : ℕ} {ds : List ℕ} → Decimal n ds → (t : List ℕ) → number 0 (ds ++ t) ≡ number n t
+pub decimal-number : {n : ℕ} {ds : List ℕ} → Decimal n ds → (t : List ℕ) → number 0 (ds ++ t) ≡ number n t
 unfolding number
 decimal-number (digit {n} h) t = let k : 0 * 10 + (48 + n - 48) ≡ n = omega arith in ap (λ (x : ℕ). number x t) k
 decimal-number (digits {n} {d} {ds} h r l) t =
     let k : n * 10 + (48 + d - 48) ≡ n * 10 + d = omega arith in
     rw append-assoc (decimal-number r ((48 + d) ∷ t) ∙ ap (λ (x : ℕ). number x t) k)
+
+pub number-grows : (a : ℕ) (cs : List ℕ) → a ≤ number a cs
+unfolding number
+number-grows a [] = omega arith
+number-grows a (c ∷ cs) = let h = number-grows (a * 10 + (c - 48)) cs in omega arith
+
+-- every digit is '0' to '9'
+pub digit-range : {n : ℕ} {ds : List ℕ} → Decimal n ds → (i : ℕ) → i < length ds → (48 ≤ getD ds i 0) × (getD ds i 0 ≤ 57)
+digit-range (digit {n} h) i l = let e : i ≡ 0 = omega arith in rw e (omega arith, omega arith)
+digit-range (digits {n} {d} {ds} h r small) i l =
+    let m : i < length ds + 1 = rw length-append at l in
+    let n : i ≤ length ds = omega arith in
+    by (eq-or-lt-of-le n) (λ m. digit-range r i m)
+  where
+    by : (i ≡ length ds) ⊎ (i < length ds) → (i < length ds → (48 ≤ getD ds i 0) × (getD ds i 0 ≤ 57)) → (48 ≤ getD (ds ++ (48 + d) ∷ []) i 0) × (getD (ds ++ (48 + d) ∷ []) i 0 ≤ 57)
+    by (inl e) f =
+        let k : i ≡ length ds + 0 = omega arith in
+        rw (k, getD-append-add ds ((48 + d) ∷ []) 0 0) (omega arith, omega (arith, small))
+    by (inr m) f = rw (List·getD-append ds ((48 + d) ∷ []) 0 i m) (f m)
 
 -- a number has one spelling
 same-digits : {n m : ℕ} {ds es : List ℕ} → Decimal n ds → Decimal m es → n ≡ m → ds ≡ es
@@ -101,12 +122,18 @@ frames-bound (l ∷ ls) (cons h k c) =
     let r : l .count * frames ls ≤ mostCount * mostCount ^ length ls = mul-le-mul k (frames-bound ls c) in
     rw (pow-succ') r
 
+-- three loops make at most 10^18 frames
+pub frames-most : (ls : List Loop) → Counted ls → length ls ≤ 3 → frames ls ≤ mostCount ^ 3
+frames-most ls c h =
+    let f = frames-bound ls c in
+    let p : mostCount ^ length ls ≤ mostCount ^ 3 = pow-le-pow-right (omega arith) h in
+    omega arith
+
 pub frames-digits : (s : List ℕ) (u : Summary) → Sound s u → frames (loopsOf u) < 10 ^ 20
 frames-digits s u g =
     let ls = loopsOf u in
     let l : length ls ≤ 3 = let m = g .loops-most in rw length-take (omega arith) in
-    let f : frames ls ≤ mostCount ^ length ls = frames-bound ls (g .loops-counted) in
-    let p : mostCount ^ length ls ≤ mostCount ^ 3 = pow-le-pow-right (omega arith) l in
+    let f = frames-most ls (g .loops-counted) l in
     omega arith
 
 pub seq-digits : (s : List ℕ) (u : Summary) (scene t z : ℕ) → Sound s u → Within (loopsOf u) scene t z → seqIndex (loopsOf u) scene t z < 10 ^ 20

@@ -43,7 +43,7 @@ use Rattle.format.specs.declared.Summary.{Summary}
 
 -- ---- 21 and 24
 
-index-read : (u : Summary) (scene t c z : ℕ) → badIndex u scene t c z ≡ false → Within (loopsOf u) scene t z × (c < u .components)
+pub index-read : (u : Summary) (scene t c z : ℕ) → badIndex u scene t c z ≡ false → Within (loopsOf u) scene t z × (c < u .components)
 unfolding badIndex
 index-read u scene t c z e =
     let ls = loopsOf u in
@@ -233,15 +233,15 @@ sample-within a len c y x g h₂ h₃ hc hy hx =
     omega arith
 
 -- what an accepted call has found
-record Ready (s : List ℕ) (u : Summary) (scene t c z : ℕ) (buf : List ℕ) (r : Range) : Type 0 where
-  sound : Sound s u
-  component : c < u .components
-  frame : FrameData s u (seqIndex (loopsOf u) scene t z) r
-  long : FrameLong u r
-  room : planeBytes (shapeOf u) ≤ length buf
+pub record Ready (s : List ℕ) (u : Summary) (scene t c z : ℕ) (buf : List ℕ) (r : Range) : Type 0 where
+  pub sound : Sound s u
+  pub component : c < u .components
+  pub frame : FrameData s u (seqIndex (loopsOf u) scene t z) r
+  pub long : FrameLong u r
+  pub room : planeBytes (shapeOf u) ≤ length buf
 
 module _ (s : List ℕ) (u : Summary) (scene t c z : ℕ) (buf : List ℕ) where
-  ready : (r : Range) → frameFor s u scene t c z (length buf) ≡ given r → Ready s u scene t c z buf r
+  pub ready : (r : Range) → frameFor s u scene t c z (length buf) ≡ given r → Ready s u scene t c z buf r
   unfolding frameFor frameOf
   ready r e =
       let n = seqIndex (loopsOf u) scene t z in

@@ -1,26 +1,27 @@
 -- A register call's number is the first of its refusals in order, and what an accepted one has written. Assumes nothing.
 use Prim.Native.Nat.{ℕ, zero, suc, _+_, _*_, _^_, _≤_, _<_}
-use mathlib.Core.Path.{_≡_, refl, sym, _∙_}
+use mathlib.Core.Path.{_≡_, refl, sym, ap, ap₂, _∙_}
 use mathlib.Core.Logic.{_↔_, _⊎_, inl, inr}
 use mathlib.Core.Bool.{Bool, true, false, _||_, true≢false}
 use mathlib.Core.Option.{Option, none, some}
-use mathlib.Core.List.{List, [], _∷_, _++_, append-assoc}
+use mathlib.Core.List.{List, [], _∷_, _++_, append-assoc, append-nil}
 use native.Mathlib.Nat.{add-zero, zero-add}
 use native.Mathlib.Omega.{arith}
 use lib.Dec.{ltb}
 use lib.ListN.{length, drop, length-append}
+use lib.Seq.{sets}
 use borrow.Author.Tests.{ltb-true, ltb-false}
 use Rattle.format.proofs.Tests.{or-left, or-right}
-use Rattle.format.proofs.Buffers.{part-first, part-behind, over-later, over-length}
+use Rattle.format.proofs.Buffers.{part-first, part-behind, over-later, over-length, sets-behind, sets-second}
 use Rattle.format.proofs.Answers.{none≢some, refuseIf-given, andThen-given}
 use Rattle.format.proofs.Orders.{Decides, gives, decides-if, decides-one, decides-then, decides-first, decides-given, nonzero, accepted-iff}
-use Rattle.format.proofs.Maps.{map-read, read-map, map-numbered}
+use Rattle.format.proofs.Maps.{map-read, read-map, map-numbered, offset-last}
 use Rattle.format.proofs.Summaries.{sound-read, unsound}
 use Rattle.format.proofs.Triples.{number-triple}
 use Rattle.format.proofs.Names.{frames-digits}
 use Rattle.format.proofs.Entries.{frame-entry, entry-frame}
 use Rattle.format.specs.Answer.{Answer, refused, given, numberOf}
-use Rattle.format.specs.Bytes.{leBytes, part, over, most64}
+use Rattle.format.specs.Bytes.{leBytes, part, over, most64, same}
 use Rattle.format.specs.Refusals as why
 use Rattle.format.specs.Map.{MapEntry, mapEntries, offsetOf}
 use Rattle.format.specs.Summary.{loopsOf, badSummary, mapOf}
@@ -94,17 +95,17 @@ module _ (s : List ℕ) (u : Summary) (buf : List ℕ) where
 
 -- ---- the records
 
-place-length : (o : Option ℕ) → length (placeBytes o) ≡ 12
+pub place-length : (o : Option ℕ) → length (placeBytes o) ≡ 12
 unfolding placeBytes
 place-length none = refl
 place-length (some o) = refl
 
 module _ (m : List ℕ) (es : List MapEntry) (ls : List Loop) where
-  record-length : (n : ℕ) → length (frameRecord m es ls n) ≡ 24
+  pub record-length : (n : ℕ) → length (frameRecord m es ls n) ≡ 24
   unfolding frameRecord
   record-length n = rw place-length refl
 
-  register-length : (k n : ℕ) → length (registerFrom k m es ls n) ≡ 24 * k
+  pub register-length : (k n : ℕ) → length (registerFrom k m es ls n) ≡ 24 * k
   unfolding registerFrom
   register-length zero n = refl
   register-length (suc k) n = rw (length-append, record-length n, register-length k (suc n)) (omega arith)
@@ -112,6 +113,14 @@ module _ (m : List ℕ) (es : List MapEntry) (ls : List Loop) where
   register-step : (k n : ℕ) (t : List ℕ) → registerFrom (suc k) m es ls n ++ t ≡ frameRecord m es ls n ++ (registerFrom k m es ls (suc n) ++ t)
   unfolding registerFrom
   register-step k n t = append-assoc (frameRecord m es ls n) (registerFrom k m es ls (suc n)) t
+
+  -- the last of k + 1 records
+  pub register-last : (k n : ℕ) → registerFrom (suc k) m es ls n ≡ registerFrom k m es ls n ++ frameRecord m es ls (n + k)
+  unfolding registerFrom
+  register-last zero n = rw (append-nil, add-zero) refl
+  register-last (suc k) n =
+      let e : suc n + k ≡ n + suc k = omega arith in
+      ap (λ (l : List ℕ). frameRecord m es ls n ++ l) (register-last k (suc n) ∙ rw e refl) ∙ sym (append-assoc (frameRecord m es ls n) (registerFrom k m es ls (suc n)) _)
 
   -- record i of k, whatever stands behind them
   register-part : (k n i : ℕ) (t : List ℕ) → i < k → part (registerFrom k m es ls n ++ t) (24 * i) 24 ≡ frameRecord m es ls (n + i)
@@ -122,6 +131,49 @@ module _ (m : List ℕ) (es : List MapEntry) (ls : List Loop) where
       let e₁ : 24 * suc i ≡ length x + 24 * i = rw (record-length n) (omega arith) in
       let e₂ : n + suc i ≡ suc n + i = omega arith in
       rw (register-step k n t, e₁, part-behind x (registerFrom k m es ls (suc n) ++ t) (24 * i) 24, e₂) (register-part k (suc n) i t (omega arith))
+
+-- ---- one entry more
+
+module _ (m : List ℕ) (es : List MapEntry) (ls : List Loop) (e : MapEntry) where
+  abbrev bears : ℕ → Bool
+  bears n = same (part m (e .nameAt) (e .nameLen)) (frameName n)
+
+  record-same : (n : ℕ) → bears n ≡ false → frameRecord m (es ++ e ∷ []) ls n ≡ frameRecord m es ls n
+  unfolding frameRecord
+  record-same n f = let q : offsetOf m (frameName n) (es ++ e ∷ []) ≡ offsetOf m (frameName n) es = offset-last m (frameName n) es e ∙ rw f refl in rw q refl
+
+  record-stored : (n : ℕ) (t : List ℕ) → offsetOf m (frameName n) (es ++ e ∷ []) ≡ some (e .offset)
+      → sets (frameRecord m es ls n ++ t) 12 (placeBytes (some (e .offset))) ≡ frameRecord m (es ++ e ∷ []) ls n ++ t
+  unfolding frameRecord
+  record-stored n t q =
+      let head = leBytes 4 (indexAt P n ls) ++ leBytes 4 (indexAt T n ls) ++ leBytes 4 (indexAt Z n ls) in
+      sets-second head (placeBytes (offsetOf m (frameName n) es)) t (placeBytes (some (e .offset))) 12 refl
+      (place-length (some (e .offset)) ∙ sym (place-length (offsetOf m (frameName n) es)))
+      ∙ ap (λ (o : Option ℕ). (head ++ placeBytes o) ++ t) (sym q)
+
+  -- the entry bears no name of k frames from n on
+  pub register-same : (k n : ℕ) → ((i : ℕ) → n ≤ i → i < n + k → bears i ≡ false) → registerFrom k m (es ++ e ∷ []) ls n ≡ registerFrom k m es ls n
+  unfolding registerFrom
+  register-same zero n f = refl
+  register-same (suc k) n f = ap₂ _++_ (record-same n (f n (omega arith) (omega arith))) (register-same k (suc n) λ i a b. f i (omega arith) (omega arith))
+
+  -- it bears the name of frame n + j: state and offset of that frame are stored
+  pub register-stored : (k n j : ℕ) (t : List ℕ) → j < k → bears (n + j) ≡ true → ((i : ℕ) → n ≤ i → i < n + k → (i ≡ n + j → ⊥) → bears i ≡ false)
+      → sets (registerFrom k m es ls n ++ t) (24 * j + 12) (placeBytes (some (e .offset))) ≡ registerFrom k m (es ++ e ∷ []) ls n ++ t
+  register-stored zero n j t h y f = absurd (omega arith)
+  register-stored (suc k) n zero t h y f =
+      let q : offsetOf m (frameName n) (es ++ e ∷ []) ≡ some (e .offset) = offset-last m (frameName n) es e ∙ rw (rw add-zero at y) refl in
+      let r = register-same k (suc n) λ i a b. f i (omega arith) (omega arith) λ c. omega arith in
+      rw (register-step m es ls k n t, register-step m (es ++ e ∷ []) ls k n t, r) (record-stored n (registerFrom k m es ls (suc n) ++ t) q)
+  register-stored (suc k) n (suc j) t h y f =
+      let x = frameRecord m es ls n in
+      let R = registerFrom k m es ls (suc n) in
+      let q = record-same n (f n (omega arith) (omega arith) λ c. omega arith) in
+      let e₁ : 24 * suc j + 12 ≡ length x + (24 * j + 12) = rw (record-length m es ls n) (omega arith) in
+      let e₂ : suc n + j ≡ n + suc j = omega arith in
+      rw (register-step m es ls k n t, register-step m (es ++ e ∷ []) ls k n t, e₁, q)
+      (sets-behind x (R ++ t) (placeBytes (some (e .offset))) (24 * j + 12)
+      ∙ ap (λ (l : List ℕ). x ++ l) (register-stored k (suc n) j t (omega arith) (rw e₂ y) λ i a b c. f i (omega arith) (omega arith) λ d. c (omega arith)))
 
 -- es are the map's entries
 module _ (s : List ℕ) (u : Summary) (g : Sound s u) (es : List MapEntry) (e : mapEntries (mapOf s u) ≡ given es) where

@@ -8,7 +8,7 @@ use native.Mathlib.Omega.{arith}
 use lib.Arith.{mod-mul}
 use borrow.Author.Tests.{eqb-true, eq-eqb}
 use Rattle.format.proofs.Frames.{Below, one, index, within-below, axis-number, free-has, seq-different}
-use Rattle.format.specs.Loops.{hasAxis, axisNumber, sameAxis}
+use Rattle.format.specs.Loops.{mostCount, hasAxis, axisNumber, sameAxis}
 use Rattle.format.specs.Frames.{countOf, indexOf, seqFrom, seqIndex, frames, indexAt}
 use Rattle.format.specs.Grammar.Loops.{Distinct, Counted}
 use Rattle.format.specs.Grammar.Loops.{cons}
@@ -49,6 +49,16 @@ index-below a n (l ∷ ls) (cons h k c) = go (sameAxis (l .axis) a) (index-below
   where
     go : (b : Bool) → indexAt a n ls < countOf a ls → cond b (n / frames ls % l .count) (indexAt a n ls) < cond b (l .count) (countOf a ls)
     go true r = mod-lt (n / frames ls) h
+    go false r = r
+
+-- and below 1,000,000
+pub index-most : (a : Axis) (n : ℕ) (ls : List Loop) → Counted ls → indexAt a n ls < mostCount
+unfolding indexAt
+index-most a n [] c = omega arith
+index-most a n (l ∷ ls) (cons h k c) = go (sameAxis (l .axis) a) (index-most a n ls c)
+  where
+    go : (b : Bool) → indexAt a n ls < mostCount → cond b (n / frames ls % l .count) (indexAt a n ls) < mostCount
+    go true r = let m = mod-lt (n / frames ls) h in omega arith
     go false r = r
 
 -- every loop of ls has n's digit at its place

@@ -1,0 +1,98 @@
+-- Pieces of a list and rows of them: how long they are, and what one more makes of a buffer. Assumes nothing.
+use Prim.Native.Nat.{ℕ, zero, suc, _+_, _-_, _*_, _≤_, _<_}
+use mathlib.Core.Path.{_≡_, refl, sym, ap, ap₂, _∙_}
+use mathlib.Core.List.{List, _++_}
+use native.Mathlib.Nat.{suc-mul, zero-mul, mul-le-mul-right, add-sub-cancel-left}
+use native.Mathlib.Numerals.{add-one}
+use native.Mathlib.Omega.{arith}
+use lib.ListN.{length, take, drop, length-append}
+use borrow.Rule.Slice.PartMut.{putMid}
+use Rattle.format.specs.Bytes.{part, over}
+use Rattle.format.proofs.Bytes.{part-length}
+use Rattle.format.proofs.Buffers.{part-part, part-join, over-all, over-more}
+use Rattle.plane.specs.Pieces.{pieces, rows}
+
+-- turn k of n, of a bytes each, ends within them
+pub turn : (k n a : ℕ) → k < n → k * a + a ≤ n * a
+turn k n a h = rw (← suc-mul) (mul-le-mul-right a h)
+
+pub length-part : (s : List ℕ) (i n : ℕ) → i + n ≤ length s → length (take n (drop i s)) ≡ n
+unfolding part
+length-part s i n h = part-length s i n h
+
+-- ---- pieces
+
+module _ (s : List ℕ) (at step size : ℕ) (apart : at + size ≤ step) where
+  pub pieces-length : (k : ℕ) → k * step ≤ length s → length (pieces s at step size k) ≡ k * size
+  unfolding pieces
+  pieces-length zero h = sym (zero-mul size)
+  pieces-length (suc k) h =
+      let h₂ : k * step + step ≤ length s = rw suc-mul at h in
+      let e = pieces-length k (omega arith) in
+      rw (length-append, e, part-length s (at + k * step) size (omega arith), suc-mul)
+
+  -- the bytes of d behind k pieces, replaced by the next piece
+  pub piece-more : (d₀ d q : List ℕ) (k from to : ℕ) → k * step + step ≤ length s → from ≡ at + k * step → to ≡ k * size
+      → d ≡ over (pieces s at step size k) d₀ → q ≡ take (from + size - from) (drop from s)
+      → putMid to (to + size - to) d q ≡ over (pieces s at step size (k + 1)) d₀
+  unfolding pieces part
+  piece-more d₀ d q k from to hk ef et ed eq =
+      let q₂ : q ≡ part s (at + k * step) size = eq ∙ rw (add-sub-cancel-left, ef) refl in
+      rw (add-sub-cancel-left, ed, add-one)
+      (over-more (pieces s at step size k) q d₀ to size (pieces-length k (omega arith) ∙ sym et) (ap length q₂ ∙ part-length s (at + k * step) size (omega arith))
+      ∙ ap (λ (x : List ℕ). over (pieces s at step size k ++ x) d₀) q₂)
+
+-- the pieces of a part are pieces of the whole
+pub pieces-part : (s : List ℕ) (i n at step size k : ℕ) → at + size ≤ step → k * step ≤ n → pieces (part s i n) at step size k ≡ pieces s (at + i) step size k
+unfolding pieces
+pieces-part s i n at step size zero h hk = refl
+pieces-part s i n at step size (suc k) h hk =
+    let h₂ : k * step + step ≤ n = rw suc-mul at hk in
+    let e : i + (at + k * step) ≡ at + i + k * step = omega arith in
+    ap₂ _++_ (pieces-part s i n at step size k h (omega arith)) (part-part s i n (at + k * step) size (omega arith) ∙ rw e refl)
+
+-- pieces with nothing between them are one
+pub pieces-joined : (s : List ℕ) (at size k : ℕ) → pieces s at size size k ≡ part s at (k * size)
+unfolding pieces part
+pieces-joined s at size zero = rw zero-mul refl
+pieces-joined s at size (suc k) = rw (pieces-joined s at size k, suc-mul) (part-join s at (k * size) size)
+
+-- ---- rows
+
+module _ (s : List ℕ) (at stride step size width : ℕ) (apart : at + size ≤ step) (inside : width * step ≤ stride) where
+  row-length : (k : ℕ) → k * stride + stride ≤ length s → length (pieces s (at + k * stride) step size width) ≡ width * size
+  row-length k h =
+      let p = part s (k * stride) stride in
+      rw (← pieces-part s (k * stride) stride at step size width apart inside)
+      (pieces-length p at step size apart width (rw (part-length s (k * stride) stride h) inside))
+
+  pub rows-length : (k : ℕ) → k * stride ≤ length s → length (rows s at stride step size width k) ≡ k * (width * size)
+  unfolding rows
+  rows-length zero h = sym (zero-mul (width * size))
+  rows-length (suc k) h =
+      let h₂ : k * stride + stride ≤ length s = rw suc-mul at h in
+      let e = rows-length k (omega arith) in
+      rw (length-append, e, row-length k h₂, suc-mul)
+
+  -- the bytes of d behind k rows, of w bytes each, replaced by the next row; m is what stood there
+  pub row-more : (d₀ d q m : List ℕ) (k from to e w f : ℕ) → k * stride + stride ≤ length s → from ≡ k * stride → e ≡ from + stride → w ≡ width * size → to ≡ k * w
+      → f ≡ to + w → length m ≡ w → d ≡ over (rows s at stride step size width k) d₀
+      → q ≡ over (pieces (take (e - from) (drop from s)) at step size width) m → putMid to (f - to) d q ≡ over (rows s at stride step size width (k + 1)) d₀
+  unfolding rows part
+  row-more d₀ d q m k from to e w f hk ef ee ew et ff em ed eq =
+      let e₁ : e - from ≡ stride = omega arith in
+      let e₂ : f - to ≡ w = omega arith in
+      let row = pieces s (at + k * stride) step size width in
+      let l : length row ≡ w = row-length k hk ∙ sym ew in
+      let q₁ : pieces (take (e - from) (drop from s)) at step size width ≡ row =
+      rw (e₁, ef) (pieces-part s (k * stride) stride at step size width apart inside) in
+      let q₂ : q ≡ row = eq ∙ rw q₁ (over-all row m (l ∙ sym em)) in
+      rw (e₂, ed, add-one)
+      (over-more (rows s at stride step size width k) q d₀ to w (rows-length k (omega arith) ∙ ap (λ (x : ℕ). k * x) (sym ew) ∙ sym et) (ap length q₂ ∙ l)
+      ∙ ap (λ (x : List ℕ). over (rows s at stride step size width k ++ x) d₀) q₂)
+
+-- rows with nothing between their samples
+pub rows-joined : (s : List ℕ) (stride size width k : ℕ) → rows s 0 stride size size width k ≡ pieces s 0 stride (width * size) k
+unfolding rows pieces
+rows-joined s stride size width zero = refl
+rows-joined s stride size width (suc k) = rw (rows-joined s stride size width k, pieces-joined s (0 + k * stride) size width) refl

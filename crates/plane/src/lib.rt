@@ -1,0 +1,153 @@
+// One plane of a file: the frame of a point is found, and one component's samples are copied out of it.
+use attributes::product_over;
+use chunk::ChunkData;
+use chunk::chunk_data;
+use chunk::data_of;
+use chunk::frame::frame_at;
+use chunk::map::Lookup;
+use copy::copy_pieces;
+use copy::gather_rows;
+use format::Range;
+use format::Summary;
+use format::refusal;
+use summary::bad_index;
+use summary::bad_summary;
+use summary::seq_index;
+ghost use mathlib.Core.Path.{_≡_};
+ghost use mathlib.Core.Logic.{_↔_};
+ghost use Prim.Native.Nat.{_/_};
+ghost use lib.ListN.{length};
+ghost use Rattle.format.specs.Bytes.{over};
+ghost use Rattle.format.specs.Chunks.{dataIn};
+ghost use Rattle.format.specs.Frames.{seqIndex};
+ghost use Rattle.format.specs.Summary.{loopsOf};
+ghost use Rattle.format.specs.Calls.Plane.{badFrame, frameFor, planeCall};
+ghost use Rattle.format.specs.Refused.Order.{First};
+ghost use Rattle.format.specs.Refused.Plane.{FrameData, PlaneRefusal, planeOrder, Copied};
+ghost use Rattle.format.specs.Demands.{Refuses, None};
+ghost use Rattle.format.specs.declared.Range.{Range};
+ghost use Rattle.plane.specs.Found.{frameAnswer, foundAt, planeIn, Fit};
+
+pub mod copy; // rows of bytes
+
+// The number of a plane that is accepted.
+const ACCEPTED: u32 = 0;
+
+// A plane has at most this many bytes.
+const CEILING: u64 = 4_294_967_296;
+
+// The data of a point's frame in its file, or the number of a refusal.
+pub enum Frame {
+    Data(Range),
+    Refused(u32),
+}
+
+// Row 24, of a frame whose data has `len` bytes.
+fn bad_frame(u: Summary, len: u64) -> bool
+    ensures { λ r. ⌜ r ≡ badFrame u len ⌝ }
+{
+    if len < 8 {
+        return true;
+    }
+    product_over(u.stride, u.height, 1, len - 8)
+}
+
+// The data of the chunk at `offset`, where it is a whole frame and its plane has no more than `room` bytes.
+fn frame_data(file: &[u8], u: Summary, offset: u64, room: usize) -> Frame
+    ensures { λ r. ⌜ frameAnswer r ≡ foundAt (now (file .entry)) u room offset ⌝ }
+{
+    match chunk_data(file, offset, b"") {
+        ChunkData::Bad => Frame::Refused(refusal::CHUNK),
+        ChunkData::Data(r) => {
+            if bad_frame(u, r.len) {
+                return Frame::Refused(refusal::FRAME_SHORT);
+            }
+            if product_over(u.width, u.height, u.bits / 8, room as u64) {
+                return Frame::Refused(refusal::BUFFER);
+            }
+            Frame::Data(r)
+        }
+    }
+}
+
+// The data of the frame of a point, and every refusal of a plane in order.
+fn frame_for(file: &[u8], u: Summary, scene: u64, t: u64, c: u64, z: u64, room: usize) -> Frame
+    ensures { λ r. ⌜ frameAnswer r ≡ frameFor (now (file .entry)) u scene t c z room ⌝ }
+{
+    if bad_summary(file, u) {
+        return Frame::Refused(refusal::SUMMARY);
+    }
+    if bad_index(u, scene, t, c, z) {
+        return Frame::Refused(refusal::INDEX);
+    }
+    if product_over(u.width, u.height, u.bits / 8, CEILING) {
+        return Frame::Refused(refusal::CEILING);
+    }
+    let map = data_of(file, u.map.start, u.map.len);
+    match frame_at(map, seq_index(u, scene, t, z)) {
+        Lookup::At(o) => frame_data(file, u, o, room),
+        Lookup::Absent => Frame::Refused(refusal::NO_FRAME),
+        Lookup::Broken => Frame::Refused(refusal::MAP),
+    }
+}
+
+// Copies the samples of `size` bytes of component c out of the rows of a frame: whole rows where there is no other component.
+fn copy_rows(rows: &[u8], u: Summary, c: u64, size: usize, samples: &mut [u8])
+    requires { ⌜ (size ≡ u .bits / 8) × Fit u c (length (now rows)) (length (now samples)) ⌝ }
+    ensures { λ _. ⌜ now (samples .exit) ≡ over (planeIn u c (now (rows .entry))) (now (samples .entry)) ⌝ }
+{
+    let width = u.width as usize;
+    let height = u.height as usize;
+    let stride = u.stride as usize;
+    let components = u.components as usize;
+    if components == 1 {
+        copy_pieces(rows, samples, 0, stride, width * size, height);
+        return;
+    }
+    let at = c as usize * size;
+    gather_rows(
+        rows,
+        samples,
+        stride,
+        at,
+        components * size,
+        size,
+        width,
+        height,
+    );
+}
+
+// The same with each size as a literal, so that it is compiled for each.
+fn copy_samples(rows: &[u8], u: Summary, c: u64, samples: &mut [u8])
+    requires { ⌜ Fit u c (length (now rows)) (length (now samples)) ⌝ }
+    ensures { λ _. ⌜ now (samples .exit) ≡ over (planeIn u c (now (rows .entry))) (now (samples .entry)) ⌝ }
+{
+    if u.bits == 8 {
+        copy_rows(rows, u, c, 1, samples);
+        return;
+    }
+    if u.bits == 16 {
+        copy_rows(rows, u, c, 2, samples);
+        return;
+    }
+    copy_rows(rows, u, c, 4, samples);
+}
+
+// The plane of component c at a point, row by row, into the lent bytes; 0, or the number of the first refusal.
+pub fn plane(file: &[u8], u: Summary, scene: u64, t: u64, c: u64, z: u64, samples: &mut [u8]) -> u32
+    ensures number { λ r. ⌜ r ≡ planeCall (now (file .entry)) u scene t c z (now (samples .entry)) .number ⌝ }
+    ensures buffer { λ _. ⌜ now (samples .exit) ≡ planeCall (now (file .entry)) u scene t c z (now (samples .entry)) .buffer ⌝ }
+    ensures first { λ r. ⌜ First (PlaneRefusal (now (file .entry)) u scene t c z (now (samples .entry))) planeOrder r ⌝ }
+    ensures accepted { λ r. ⌜ ((r ≡ 0) ↔ None (PlaneRefusal (now (file .entry)) u scene t c z (now (samples .entry)))) ⌝ }
+    ensures copied { λ r. ⌜ (r ≡ 0 → (p : Range) × FrameData (now (file .entry)) u (seqIndex (loopsOf u) scene t z) p × Copied u c (dataIn (now (file .entry)) p) (now (samples .entry)) (now (samples .exit))) ⌝ }
+    ensures untouched { λ r. ⌜ (Refuses r → now (samples .exit) ≡ now (samples .entry)) ⌝ }
+{
+    match frame_for(file, u, scene, t, c, z, samples.len()) {
+        Frame::Refused(n) => n,
+        Frame::Data(r) => {
+            let data = data_of(file, r.start, r.len);
+            copy_samples(&data[8..], u, c, samples);
+            ACCEPTED
+        }
+    }
+}

@@ -1,0 +1,225 @@
+// What every call that takes a summary shares: whether the summary may be used, whether indices are in range, and the numbers of frames.
+use attributes::bad_bits;
+use attributes::bad_plane;
+use attributes::bad_shape;
+use format::Attributes;
+use format::Axis;
+use format::Loop;
+use format::Range;
+use format::Summary;
+ghost use mathlib.Core.Path.{_≡_};
+ghost use mathlib.Core.Bool.{cond};
+ghost use mathlib.Core.List.{_∷_};
+ghost use Prim.Native.Nat.{_+_, _*_, _/_, _%_, _≤_, _<_};
+ghost use lib.Dec.{ltb};
+ghost use lib.ListN.{length, drop};
+ghost use Rattle.format.specs.Loops.{axisNumber, sameAxis, hasAxis};
+ghost use Rattle.format.specs.Frames.{countOf, indexOf, seqIndex, frames as framesOf, indexAt};
+ghost use Rattle.format.specs.Summary.{shapeOf, loopsOf, badLoops, badSummary};
+ghost use Rattle.format.specs.Calls.Plane.{badIndex};
+ghost use Rattle.format.specs.Grammar.Loops.{Counted, Distinct};
+ghost use Rattle.format.specs.Refused.Plane.{Within};
+
+// A loop has at most this many values.
+const MOST_COUNT: u64 = 1_000_000;
+
+// The sizes of a frame.
+pub fn shape_of(u: Summary) -> Attributes
+    ensures { λ r. ⌜ r ≡ shapeOf u ⌝ }
+{
+    Attributes {
+        width: u.width,
+        stride: u.stride,
+        height: u.height,
+        components: u.components,
+        bits: u.bits,
+    }
+}
+
+// How many of the three loops are used.
+fn used(u: Summary) -> usize
+    ensures { λ r. ⌜ (r ≡ length (loopsOf u)) × (r ≤ 3) ⌝ }
+{
+    let depth = u.depth as usize;
+    if depth < 3 { depth } else { 3 }
+}
+
+// Loop i, with those after it.
+fn loop_at(u: Summary, i: usize) -> Loop
+    requires { ⌜ i < length (loopsOf u) ⌝ }
+    ensures { λ r. ⌜ drop i (loopsOf u) ≡ r ∷ drop (i + 1) (loopsOf u) ⌝ }
+{
+    u.loops[i]
+}
+
+fn axis_number(a: Axis) -> u64
+    ensures { λ r. ⌜ r ≡ axisNumber a ⌝ }
+{
+    match a {
+        Axis::T => 0,
+        Axis::Z => 1,
+        Axis::P => 2,
+    }
+}
+
+fn runs_over(l: Loop, a: Axis) -> bool
+    ensures { λ r. ⌜ r ≡ sameAxis (l .axis) a ⌝ }
+{
+    let b = l.axis;
+    axis_number(b) == axis_number(a)
+}
+
+// Whether a loop from number `from` on runs over an axis.
+fn has_axis(u: Summary, a: Axis, from: usize) -> bool
+    ensures { λ r. ⌜ r ≡ hasAxis a (drop from (loopsOf u)) ⌝ }
+{
+    let n = used(u);
+    let mut i = from;
+    while i < n {
+        let l = loop_at(u, i);
+        if runs_over(l, a) {
+            return true;
+        }
+        i += 1;
+    }
+    false
+}
+
+// A loop count that is not 1 to 1,000,000, or an axis that repeats.
+fn bad_loops(u: Summary) -> bool
+    ensures { λ r. ⌜ r ≡ badLoops (loopsOf u) ⌝ }
+{
+    let n = used(u);
+    let mut i = 0;
+    while i < n {
+        let l = loop_at(u, i);
+        let a = l.axis;
+        if (l.count == 0) | (MOST_COUNT < l.count) | has_axis(u, a, i + 1) {
+            return true;
+        }
+        i += 1;
+    }
+    false
+}
+
+// Whether a range leaves the file.
+fn outside(file: &[u8], r: Range) -> bool
+    ensures { λ b. ⌜ b ≡ ltb (length (now (file .entry))) (r .start + r .len) ⌝ }
+{
+    let n = file.len() as u64;
+    if n < r.start {
+        return true;
+    }
+    n - r.start < r.len
+}
+
+// Row 20, of any summary: nothing wraps.
+pub fn bad_summary(file: &[u8], u: Summary) -> bool
+    ensures { λ r. ⌜ r ≡ badSummary (now (file .entry)) u ⌝ }
+{
+    let a = shape_of(u);
+    let map = u.map;
+    bad_bits(u.bits)
+        | bad_shape(a)
+        | bad_plane(a)
+        | (3 < u.depth)
+        | bad_loops(u)
+        | outside(file, map)
+}
+
+// How many values an axis has: an absent one has one.
+pub fn count_of(u: Summary, a: Axis) -> u64
+    ensures { λ r. ⌜ r ≡ countOf a (loopsOf u) ⌝ }
+{
+    let n = used(u);
+    let mut i = 0;
+    while i < n {
+        let l = loop_at(u, i);
+        if runs_over(l, a) {
+            return l.count;
+        }
+        i += 1;
+    }
+    1
+}
+
+// Row 21: scene, t, c or z not below its count.
+pub fn bad_index(u: Summary, scene: u64, t: u64, c: u64, z: u64) -> bool
+    ensures { λ r. ⌜ r ≡ badIndex u scene t c z ⌝ }
+{
+    (count_of(u, Axis::P) <= scene)
+        | (count_of(u, Axis::T) <= t)
+        | (u.components <= c)
+        | (count_of(u, Axis::Z) <= z)
+}
+
+fn index_of(a: Axis, scene: u64, t: u64, z: u64) -> u64
+    ensures { λ r. ⌜ r ≡ indexOf a scene t z ⌝ }
+{
+    match a {
+        Axis::T => t,
+        Axis::Z => z,
+        Axis::P => scene,
+    }
+}
+
+// The number of a frame: from 0, for each loop, times its count plus its index.
+pub fn seq_index(u: Summary, scene: u64, t: u64, z: u64) -> u64
+    requires { ⌜ Counted (loopsOf u) × Distinct (loopsOf u) × Within (loopsOf u) scene t z ⌝ }
+    ensures { λ r. ⌜ r ≡ seqIndex (loopsOf u) scene t z ⌝ }
+{
+    let m = used(u);
+    let mut i = 0;
+    let mut n = 0;
+    while i < m {
+        let l = loop_at(u, i);
+        let a = l.axis;
+        n = n * l.count + index_of(a, scene, t, z);
+        i += 1;
+    }
+    n
+}
+
+// How many frames the loops make.
+pub fn frames(u: Summary) -> u64
+    requires { ⌜ Counted (loopsOf u) ⌝ }
+    ensures { λ r. ⌜ r ≡ framesOf (loopsOf u) ⌝ }
+{
+    let mut i = used(u);
+    let mut n = 1;
+    while 0 < i {
+        i -= 1;
+        let l = loop_at(u, i);
+        n = l.count * n;
+    }
+    n
+}
+
+// The index of frame n on an axis, where the loop l has f frames in each turn: its own, or what the loops within it give.
+fn index_in(l: Loop, a: Axis, n: u64, f: u64, within: u64) -> u64
+    requires { ⌜ (0 < f) × (0 < l .count) ⌝ }
+    ensures { λ r. ⌜ r ≡ cond (sameAxis (l .axis) a) (n / f % l .count) within ⌝ }
+{
+    if runs_over(l, a) {
+        n / f % l.count
+    } else {
+        within
+    }
+}
+
+// The index of frame n on an axis: 0 where no loop has it.
+pub fn index_at(u: Summary, a: Axis, n: u64) -> u64
+    requires { ⌜ Counted (loopsOf u) ⌝ }
+    ensures { λ r. ⌜ r ≡ indexAt a n (loopsOf u) ⌝ }
+{
+    let mut i = used(u);
+    let mut f = 1;
+    let mut index = 0;
+    while 0 < i {
+        i -= 1;
+        let l = loop_at(u, i);
+        index = index_in(l, a, n, f, index);
+        f = l.count * f;
+    }
+    index
+}
