@@ -15,7 +15,6 @@ ghost use Rattle.number.specs.Readings.{natural};
 ghost use Rattle.lookup.specs.Table.{entriesIn, Rows, Holds, found, Within};
 ghost use Rattle.lookup.specs.Values.{elementsOf, fieldMeaning, FieldInside};
 ghost use Rattle.experiment.specs.Single.{saidOf, planesOf};
-
 use format::refusal;
 use lookup::ClxValue;
 use lookup::Field;

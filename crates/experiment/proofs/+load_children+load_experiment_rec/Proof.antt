@@ -90,7 +90,7 @@ one t = (
 )
 
 abbrev load-children-Inv-loop : load-children-lts.InvT-loop
-load-children-Inv-loop file table used nesting levels turn₀ kept₀ turn kept = 
+load-children-Inv-loop file table used nesting levels turn₀ kept₀ turn kept =
     Standing (entryIn table) used turn
     × On (λ i. walk levels file (entriesIn table used) i nesting) (restOf file (entryIn table) used turn₀) kept₀ (restOf file (entryIn table) used turn) kept
 
