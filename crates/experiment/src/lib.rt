@@ -2,7 +2,7 @@
 ghost use mathlib.Core.Path.{_≡_};
 ghost use mathlib.Core.Bool.{cond};
 ghost use mathlib.Core.List.{List};
-ghost use Prim.Native.Nat.{ℕ, suc, _+_, _≤_, _<_};
+ghost use Prim.Native.Nat.{suc, _+_, _≤_, _<_};
 ghost use lib.Dec.{eqb};
 ghost use Rattle.format.specs.Loops.{Built, append, walk, walkAll, experiment};
 ghost use Rattle.lookup.specs.Table.{entryIn, entriesIn, Holds};
@@ -13,19 +13,18 @@ ghost use Rattle.experiment.specs.Walked.{Gives};
 pub mod kept;
 pub mod single;
 
-use format::Loop;
-use lookup::Next;
-use lookup::Turn;
-use lookup::child::children;
-use lookup::child::next_child;
-use lookup::level::get;
-
 use crate::kept::Kept;
 use crate::kept::append;
 use crate::kept::none_kept;
 use crate::single::SPECT;
 use crate::single::Single;
 use crate::single::single_experiment_loop;
+use format::Loop;
+use lookup::Next;
+use lookup::Turn;
+use lookup::child::children;
+use lookup::child::next_child;
+use lookup::level::get;
 
 // Levels of an experiment may stand this many deep, one in another.
 pub const MAX_EXP_DEPTH: u64 = 64;
@@ -66,7 +65,15 @@ fn nesting_below(kind: u64, nesting: u64) -> u64
 }
 
 // The loops of the experiment levels that a walk has still before it, after those that are kept.
-fn load_children(file: &[u8], table: &[u8], used: usize, from: Turn, nesting: u64, levels: u64, before: Kept) -> Walked
+fn load_children(
+    file: &[u8],
+    table: &[u8],
+    used: usize,
+    from: Turn,
+    nesting: u64,
+    levels: u64,
+    before: Kept,
+) -> Walked
     requires { ⌜ Holds (now file) (now table) used × Standing (entryIn (now table)) used from × (nesting + levels ≤ 64) × Reached before ⌝ }
     ensures { λ r. ⌜ ((bs : List Built) → Stands before bs → Gives r (walkAll (λ i. walk levels (now (file .entry)) (entriesIn (now (table .entry)) used) i nesting) (restOf (now (file .entry)) (entryIn (now (table .entry))) used from) bs)) ⌝ }
 {
@@ -90,7 +97,15 @@ fn load_children(file: &[u8], table: &[u8], used: usize, from: Turn, nesting: u6
 }
 
 // The loops of the experiment level i, after those that are kept. A level that says no loop stops the walk there, its children too.
-fn load_experiment_rec(file: &[u8], table: &[u8], used: usize, i: usize, nesting: u64, levels: u64, kept: Kept) -> Walked
+fn load_experiment_rec(
+    file: &[u8],
+    table: &[u8],
+    used: usize,
+    i: usize,
+    nesting: u64,
+    levels: u64,
+    kept: Kept,
+) -> Walked
     requires { ⌜ Holds (now file) (now table) used × (i < used) × (nesting + levels ≤ 64) × Reached kept ⌝ }
     ensures { λ r. ⌜ ((bs : List Built) → Stands kept bs → Gives r (walk levels (now (file .entry)) (entriesIn (now (table .entry)) used) i nesting bs)) ⌝ }
 {

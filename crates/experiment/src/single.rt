@@ -7,15 +7,13 @@ ghost use Prim.Native.Nat.{ℕ, _≤_, _<_};
 ghost use lib.Dec.{eqb};
 ghost use lib.IntN.{pos};
 ghost use lib.ListN.{take};
-ghost use Rattle.format.specs.Bytes.{ascii};
-ghost use Rattle.format.specs.Values.{fieldIn, asLevel, bind, list, valueAt};
+ghost use Rattle.format.specs.Values.{list, valueAt};
 ghost use Rattle.format.specs.Numbers.{unsigned};
 ghost use Rattle.format.specs.Loops.{orZero, loopParams, countSet, validOf, countField, pointCount, spectralCount, supported, counted, typed, said};
 ghost use Rattle.number.specs.Readings.{natural};
 ghost use Rattle.lookup.specs.Table.{entriesIn, Rows, Holds, found, Within};
 ghost use Rattle.lookup.specs.Values.{elementsOf, fieldMeaning, FieldInside};
 ghost use Rattle.experiment.specs.Single.{saidOf, planesOf};
-
 use format::refusal;
 use lookup::ClxValue;
 use lookup::Field;

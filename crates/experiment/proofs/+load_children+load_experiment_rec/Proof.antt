@@ -1,6 +1,6 @@
 -- The levels that are left fall from call to call, and the experiment levels before a walk from turn to turn.
 use Prim.Native.Nat.{_+_, _*_}
-use mathlib.Core.Path.{_≡_, refl, sym, ap, _∙_}
+use mathlib.Core.Path.{refl, sym, ap, _∙_}
 use native.Mathlib.Omega.{arith}
 use lib.ListN.{length}
 use Rattle.format.specs.Bytes.{ascii}
@@ -90,7 +90,7 @@ one t = (
 )
 
 abbrev load-children-Inv-loop : load-children-lts.InvT-loop
-load-children-Inv-loop file table used nesting levels turn₀ kept₀ turn kept = 
+load-children-Inv-loop file table used nesting levels turn₀ kept₀ turn kept =
     Standing (entryIn table) used turn
     × On (λ i. walk levels file (entriesIn table used) i nesting) (restOf file (entryIn table) used turn₀) kept₀ (restOf file (entryIn table) used turn) kept
 
