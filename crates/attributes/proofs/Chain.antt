@@ -4,7 +4,7 @@ use mathlib.Core.Path.{_≡_, refl, sym}
 use mathlib.Core.Bool.{Bool}
 use mathlib.Core.Option.{Option, none, some}
 use mathlib.Core.List.{List}
-use Rattle.format.specs.Answer.{Answer, refuseIf, andThen, orRefuse}
+use Rattle.format.specs.Answer.{Answer, andThen, orRefuse}
 use Rattle.format.specs.Refusals as why
 use Rattle.format.specs.Bytes.{ascii}
 use Rattle.format.specs.Values.{field, fieldIn, asLevel, bind}

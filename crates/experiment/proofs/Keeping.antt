@@ -1,17 +1,16 @@
 -- What stands for the appended loops, with one more or a larger last one. Assumes nothing.
-use Prim.Native.Nat.{ℕ, zero, suc, _+_, _-_, _≤_, _<_, max}
-use mathlib.Core.Path.{_≡_, refl, sym, ap, _∙_, subst}
+use Prim.Native.Nat.{ℕ, _+_, _-_, _≤_, _<_, max}
+use mathlib.Core.Path.{_≡_, refl, sym, _∙_}
 use mathlib.Core.Bool.{Bool, true, false, cond, _&&_}
 use mathlib.Core.List.{List, [], _∷_, _++_, reverse}
 use native.Mathlib.Omega.{arith}
-use lib.Dec.{eqb, ltb}
+use lib.Dec.{eqb}
 use lib.ListN.{length, length-append, take, set, getD}
 use borrow.Author.Tests.{eqb-true, eq-eqb, ne-eqb, lt-ltb, le-ltb}
 use Rattle.format.specs.Answer.{Answer, refused, given, refuseIf, andThen}
 use Rattle.format.specs.Refusals as why
 use Rattle.format.specs.Loops.{Built, append, axisOf, hasAxis, judge}
 use Rattle.format.specs.Summary.{inThree, noLoop}
-use Rattle.format.specs.declared.Axis.{Axis}
 use Rattle.format.specs.declared.Loop.{Loop}
 use Rattle.format.proofs.Judging.{judge-last, judge-next, judge-few, judge-room, Alike, neither, both, judge-count}
 use Rattle.format.proofs.Sounds.{three-loops}

@@ -1,6 +1,6 @@
 -- A walk over experiment levels, step by step. Assumes nothing.
-use Prim.Native.Nat.{ℕ, zero, suc, _+_, _-_, _<_}
-use mathlib.Core.Path.{_≡_, refl, sym, ap, _∙_, subst}
+use Prim.Native.Nat.{ℕ, suc, _-_}
+use mathlib.Core.Path.{_≡_, refl, sym, _∙_, subst}
 use mathlib.Core.Bool.{Bool, true, false, cond}
 use mathlib.Core.List.{List, [], _∷_, reverse}
 use native.Mathlib.Omega.{arith}
@@ -10,12 +10,11 @@ use Rattle.format.specs.Answer.{Answer, refused, given, andThen}
 use Rattle.format.specs.Bytes.{ascii}
 use Rattle.format.specs.Trees.{mostDepth}
 use Rattle.format.specs.Values.{fieldIn}
-use Rattle.format.specs.Loops.{childLevels, Said, nothing, wrong, loop, said, Built, append, walkAll, walkOne, walk, judge, experiment}
+use Rattle.format.specs.Loops.{childLevels, nothing, wrong, loop, said, Built, append, walkAll, walkOne, walk, judge, experiment}
 use Rattle.format.specs.declared.Entry.{Entry}
-use Rattle.format.specs.declared.Loop.{Loop}
 use Rattle.format.proofs.Answers.{Numbered, NotZero, refusal}
 use Rattle.format.proofs.Nonzero.{walk-some}
-use Rattle.experiment.specs.Kept.{Tells, accepted, turned, Stands, Reached}
+use Rattle.experiment.specs.Kept.{Tells, turned, Stands, Reached}
 use Rattle.experiment.specs.Walked.{Gives, went, stopped}
 use Rattle.experiment.specs.declared.kept.Kept.{Kept}
 use Rattle.experiment.specs.declared.Walked.{Walked}

@@ -1,7 +1,7 @@
 // The loops that are kept while an experiment is walked: at most three, by value, with what is asked of the last one appended.
 ghost use mathlib.Core.Path.{_≡_};
 ghost use mathlib.Core.List.{List, [], _∷_};
-ghost use Prim.Native.Nat.{_+_, _≤_, _<_, _^_, max};
+ghost use Prim.Native.Nat.{_+_, _≤_, _<_, max};
 ghost use lib.ListN.{take};
 ghost use Rattle.format.specs.Loops.{Built, append, axisOf, axisNumber, hasAxis};
 ghost use Rattle.experiment.specs.Kept.{Stands, Reached, Grown, larger};

@@ -7,8 +7,6 @@ use Rattle.format.specs.Attributes.{badShape, rowBytes}
 use Rattle.attributes.proofs.Products.{either-over}
 use Rattle.attributes.proofs.bad_shape.Statement.{statement}
 use Rattle.attributes.proofs.bad_shape.Tie as tie
-use Rattle.attributes.proofs.bad_shape.Reads as reads
-use Rattle.attributes.proofs.bad_shape.Lts as lts
 
 returns : tie.Need-returns
 unfolding badShape

@@ -1,10 +1,10 @@
 -- `parse_attributes`: of the level, or 11 where there is none.
 use Prim.Native.Nat.{_<_}
-use mathlib.Core.Path.{_≡_, sym, ap, _∙_}
+use mathlib.Core.Path.{sym, ap, _∙_}
 use native.Mathlib.Omega.{arith}
 use Rattle.format.specs.Answer.{andThen, orRefuse}
 use Rattle.format.specs.Bytes.{ascii}
-use Rattle.lookup.specs.Table.{found, Within}
+use Rattle.lookup.specs.Table.{found}
 use Rattle.attributes.proofs.Chain.{in-level}
 use borrow.Author.Needs.{needs}
 use Rattle.attributes.proofs.parse_attributes.Statement.{statement}

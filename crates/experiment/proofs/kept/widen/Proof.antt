@@ -2,7 +2,6 @@
 use Prim.Native.Nat.{_≤_, _<_, _-_}
 use native.Mathlib.Omega.{arith}
 use borrow.Author.Needs.{needs}
-use Rattle.experiment.specs.Kept.{one}
 use Rattle.experiment.proofs.Keeping.{last-as, wider-turned, wider-some, wider-room, wider-kept}
 use Rattle.experiment.proofs.kept.widen.Statement.{statement}
 use Rattle.experiment.proofs.kept.widen.Tie as tie
