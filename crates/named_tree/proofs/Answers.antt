@@ -1,0 +1,68 @@
+-- What the answers of a lookup, a chunk and a tree make of the tree under a name. Assumes nothing.
+use Prim.Native.Nat.{ℕ}
+use mathlib.Core.Path.{_≡_, refl, sym, ap, _∙_, subst}
+use mathlib.Core.Option.{Option, none, some}
+use mathlib.Core.List.{List, []}
+use lib.ListN.{length}
+use Rattle.format.specs.Answer.{Answer, given, refused, andThen, orRefuse}
+use Rattle.format.specs.Bytes.{part}
+use Rattle.format.specs.Chunks.{chunkData, dataIn}
+use Rattle.format.specs.Map.{MapEntry, mapEntries, offsetOf, namedChunk}
+use Rattle.format.specs.Trees.{treeIn, within, treeEntries, roomIn, namedTree}
+use Rattle.format.specs.declared.Range.{Range}
+use Rattle.format.specs.declared.Entry.{Entry}
+use Rattle.chunk.specs.Answers.{findIn}
+use Rattle.tree.specs.Table.{Holds}
+use Rattle.tree.specs.Steps.{treeInto, parsedOf}
+use Rattle.tree.specs.declared.Parsed.{Parsed}
+use Rattle.named_tree.specs.Named.{treeAt, treeUnder, Reads}
+
+-- what a tree's answer says, and what its table has
+pub parsed-reads : {t : List ℕ} {n : ℕ} (a : Answer (List Entry)) {r : Parsed} → r ≡ parsedOf a → ((es : List Entry) → a ≡ given es → Holds t n es) → Reads t n a r
+parsed-reads {t} {n} (given es) e h = rw e (record { entries = es; answer = refl; count = refl; table = h es refl })
+parsed-reads {t} {n} (refused x) e h = rw e refl
+
+-- ---- the chunk at an offset
+
+module _ (s : List ℕ) (o n : ℕ) where
+  pub no-chunk : {x : ℕ} → refused x ≡ chunkData [] s o → treeAt s (roomIn n) o ≡ refused x
+  unfolding treeAt andThen
+  no-chunk e = rw (← e)
+
+  chunk-tree : (r : Range) → given r ≡ chunkData [] s o → treeAt s (roomIn n) o ≡ treeInto (dataIn s r) (r .start) n
+  unfolding treeAt andThen treeIn
+  chunk-tree r e = rw (← e)
+
+  pub chunk-reads : {r : Range} {d t : List ℕ} {p : Parsed} → given r ≡ chunkData [] s o → d ≡ part s (r .start) (r .len) → p ≡ parsedOf (treeInto d (r .start) n)
+      → ((es : List Entry) → treeInto d (r .start) n ≡ given es → Holds t n es) → Reads t n (treeAt s (roomIn n) o) p
+  chunk-reads {r} {d} {t} {p} e q a h =
+      let z : treeInto d (r .start) n ≡ treeAt s (roomIn n) o = ap (λ (x : List ℕ). treeInto x (r .start) n) q ∙ sym (chunk-tree r e) in
+      subst (λ (x : Answer (List Entry)). Reads t n x p) z (parsed-reads (treeInto d (r .start) n) a h)
+
+-- ---- what a lookup found
+
+module _ (s : List ℕ) (room : ℕ) where
+  pub under-at : (o : ℕ) → treeUnder s room (given (some o)) ≡ treeAt s room o
+  unfolding treeUnder andThen orRefuse
+  under-at o = refl
+
+  pub under-absent : treeUnder s room (given none) ≡ refused 11
+  unfolding treeUnder andThen orRefuse
+  under-absent = refl
+
+  pub under-refused : (x : ℕ) → treeUnder s room (refused x) ≡ refused x
+  unfolding treeUnder andThen
+  under-refused x = refl
+
+  -- the map's refusal, or the tree under the name
+  pub under-named : (m name : List ℕ) → treeUnder s room (findIn m name) ≡ andThen (mapEntries m) λ es. namedTree s m es room name
+  unfolding treeUnder findIn andThen orRefuse namedTree namedChunk treeAt
+  under-named m name = go (mapEntries m)
+    where
+      listed : (o : Option ℕ) → treeUnder s room (given o) ≡ andThen (andThen (orRefuse o 11) (chunkData [] s)) λ r. treeEntries (within room (treeIn s r))
+      listed none = refl
+      listed (some o) = refl
+
+      go : (a : Answer (List MapEntry)) → treeUnder s room (andThen a λ es. given (offsetOf m name es)) ≡ andThen a λ es. namedTree s m es room name
+      go (refused x) = refl
+      go (given es) = listed (offsetOf m name es)
