@@ -54,15 +54,19 @@ module _ (s : List ℕ) (room : ℕ) where
   unfolding treeUnder andThen
   under-refused x = refl
 
+  pub under-listed : (m name : List ℕ) (es : List MapEntry) → treeUnder s room (given (offsetOf m name es)) ≡ namedTree s m es room name
+  unfolding treeUnder andThen orRefuse namedTree namedChunk treeAt
+  under-listed m name es = go (offsetOf m name es)
+    where
+      go : (o : Option ℕ) → treeUnder s room (given o) ≡ andThen (andThen (orRefuse o 11) (chunkData [] s)) λ r. treeEntries (within room (treeIn s r))
+      go none = refl
+      go (some o) = refl
+
   -- the map's refusal, or the tree under the name
   pub under-named : (m name : List ℕ) → treeUnder s room (findIn m name) ≡ andThen (mapEntries m) λ es. namedTree s m es room name
-  unfolding treeUnder findIn andThen orRefuse namedTree namedChunk treeAt
+  unfolding findIn andThen
   under-named m name = go (mapEntries m)
     where
-      listed : (o : Option ℕ) → treeUnder s room (given o) ≡ andThen (andThen (orRefuse o 11) (chunkData [] s)) λ r. treeEntries (within room (treeIn s r))
-      listed none = refl
-      listed (some o) = refl
-
       go : (a : Answer (List MapEntry)) → treeUnder s room (andThen a λ es. given (offsetOf m name es)) ≡ andThen a λ es. namedTree s m es room name
-      go (refused x) = refl
-      go (given es) = listed (offsetOf m name es)
+      go (refused x) = under-refused x
+      go (given es) = under-listed m name es
