@@ -9,6 +9,7 @@ use lib.ListN.{length, drop}
 use Rattle.format.specs.Bytes.{le, part, same}
 use Rattle.format.specs.Answer.{Answer, given, refused, andThen, orRefuse, numberOf}
 use Rattle.format.specs.Map.{MapEntry, throughMark, endMark, mapFrom, mapEntries, mostEntries, offsetOf}
+use Rattle.format.proofs.Answers.{andThen-given, given-inj, refused≢given}
 use Rattle.format.proofs.Maps.{map-end, map-full, map-cut, map-entry, orLast, lastOf, last-start, gives, last-entry}
 use Rattle.chunk.specs.Answers.{lookupOf, givesOf, laterOf, findIn}
 use Rattle.chunk.specs.Scan.{entryAt, Entry, Stands}
@@ -74,8 +75,9 @@ module _ {m name : List ℕ} {at count : ℕ} {last : Lookup} (h : Scanned m nam
         by true s p = next (some (le 8 m (at + n))) (rw p) (rw s)
         by false s p = next (h .best) (rw p (h .kept)) (rw s)
 
--- ---- the map's own number, and a name that is looked up in a map that is accepted
+-- ---- the map behind what is found
 
+-- the map's own number
 pub number-is : (m name : List ℕ) {o : Answer (Option ℕ)} → o ≡ findIn m name → numberOf o ≡ numberOf (mapEntries m)
 unfolding findIn andThen numberOf
 number-is m name e = ap numberOf e ∙ by (mapEntries m)
@@ -84,6 +86,25 @@ number-is m name e = ap numberOf e ∙ by (mapEntries m)
     by (refused k) = refl
     by (given es) = refl
 
+-- what is found tells of the entries: they are the same for every name
+module _ (m name : List ℕ) where
+  pub found-map : {o : Option ℕ} → findIn m name ≡ given o → (es : List MapEntry) × (mapEntries m ≡ given es) × (offsetOf m name es ≡ o)
+  unfolding findIn
+  found-map e = let (es, p, q) = andThen-given (mapEntries m) _ e in (es, p, given-inj q)
+
+  pub found-among : {o : Option ℕ} {es : List MapEntry} → mapEntries m ≡ given es → findIn m name ≡ given o → offsetOf m name es ≡ o
+  unfolding findIn andThen
+  found-among p e = given-inj (rw p at e)
+
+  pub broken-map : {n : ℕ} → findIn m name ≡ refused n → mapEntries m ≡ refused n
+  unfolding findIn andThen
+  broken-map {n} e = by (mapEntries m) e
+    where
+      by : (a : Answer (List MapEntry)) → (andThen a λ es. given (offsetOf m name es)) ≡ refused n → a ≡ refused n
+      by (refused k) q = cc
+      by (given es) q = absurd (refused≢given (sym q))
+
+-- a name that is looked up in a map that is accepted, as the calls have it
 pub find-then : {B : Type 0} (m name : List ℕ) (k : ℕ) (f : ℕ → Answer B)
     → (andThen (mapEntries m) λ es. andThen (orRefuse (offsetOf m name es) k) f) ≡ (andThen (findIn m name) λ o. andThen (orRefuse o k) f)
 unfolding findIn andThen

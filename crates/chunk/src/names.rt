@@ -81,5 +81,8 @@ pub fn is_end(s: &[u8], at: usize, n: usize) -> bool
     requires { ⌜ at + n ≤ length (now s) ⌝ }
     ensures { λ r. ⌜ r ≡ same (part (now (s .entry)) at n) endMark ⌝ }
 {
-    is_at(s, at, n, b"ND2 CHUNK MAP SIGNATURE 0000001!")
+    if n != 32 {
+        return false;
+    }
+    same_at(s, at, b"ND2 CHUNK MAP SIGNATURE 0000001!")
 }

@@ -1,7 +1,7 @@
 -- The values that are computed are those that the grammar's rules give. Assumes nothing.
 use Prim.Native.Nat.{ℕ, zero, suc, _+_, _<_}
 use mathlib.Core.Path.{_≡_, refl, sym, ap, _∙_}
-use mathlib.Core.Bool.{Bool, true, false, cond, true≢false}
+use mathlib.Core.Bool.{Bool, true, false, true≢false}
 use mathlib.Core.Option.{Option, none, some, Option·some-inj}
 use mathlib.Core.List.{List, [], _∷_, _++_, nil≢cons}
 use native.Mathlib.Omega.{arith}
@@ -9,7 +9,7 @@ use lib.Dec.{eqb}
 use lib.ListN.{length, getElem?}
 use borrow.Author.Tests.{eqb-true, eqb-false}
 use Rattle.format.proofs.Answers.{none≢some}
-use Rattle.format.proofs.Lookups.{as-level, level-as}
+use Rattle.format.proofs.Lookups.{as-level, level-as, leaf-by}
 use Rattle.format.proofs.Depths.{Ranked, level-depth, child-depth}
 use Rattle.format.proofs.Lists.{all-append, all-map, all-rest, all-in, rising-above, just-first, just-unique}
 use Rattle.format.proofs.Slots.{Latest, SlotAt, a-name, no-name, Slots, empty, slot, Holds, Kept, holds-empty, holds-rest, slot-first, slots-of, first-unique, latest-unique, holds-place, slots-length, slots-all, find-latest, find-holds}
@@ -40,14 +40,7 @@ plain-list : (v : Value) → isPlain v ≡ true → NoList v
 plain-list v p l e = true≢false (sym p ∙ ap isPlain e)
 
 leaf-plain : (s : List ℕ) (e : Entry) → isPlain (leaf s e) ≡ true
-unfolding leaf
-leaf-plain s e =
-    by (eqb (e .kind) 1) _ _ refl (by (eqb (e .kind) 2) _ _ refl (by (eqb (e .kind) 3) _ _ refl (by (eqb (e .kind) 4) _ _ refl
-    (by (eqb (e .kind) 6) _ _ refl (by (eqb (e .kind) 8) _ _ refl (by (eqb (e .kind) 9) _ _ refl refl))))))
-  where
-    by : (b : Bool) (x y : Value) → isPlain x ≡ true → isPlain y ≡ true → isPlain (cond b x y) ≡ true
-    by true x y p q = p
-    by false x y p q = q
+leaf-plain s e = leaf-by (λ v. isPlain v ≡ true) (λ b. refl) (λ z. refl) (λ x. refl) (λ a n. refl) (λ a n. refl) s e
 
 pub leaf-level : (s : List ℕ) (e : Entry) → NoLevel (leaf s e)
 leaf-level s e = plain-level (leaf s e) (leaf-plain s e)

@@ -10,6 +10,7 @@ pub mod Map
 -- "Trees": text, records and their entries, what the entries mean
 pub mod Text
 pub mod Trees
+pub mod Table
 pub mod Values
 -- "Attributes": the readings of numbers, the attributes
 pub mod Numbers

@@ -1,18 +1,21 @@
 -- A tree that is read into a cleared table, and what the answer tells a caller. Assumes nothing.
 use Prim.Native.Nat.{ℕ, _-_, _*_, _≤_}
 use mathlib.Core.Path.{_≡_, refl, ap, _∙_, subst}
+use mathlib.Core.Bool.{Bool, true, false, cond}
 use mathlib.Core.List.{List}
 use native.Mathlib.Omega.{arith}
 use native.Mathlib.Nat.{sub-zero}
-use lib.ListN.{length, length-replicate}
+use lib.Dec.{leb}
+use lib.ListN.{length, take, length-replicate}
 use Rattle.format.proofs.Tables.{length-table, sets-over, within-whole}
 use Rattle.format.specs.Answer.{Answer, given, refused}
 use Rattle.format.specs.Bytes.{over, zeros}
-use Rattle.format.specs.Trees.{at, fault, Read, read, roomIn, within, wholeTree, tableBytes}
+use Rattle.format.specs.Refusals as why
+use Rattle.format.specs.Trees.{Stop, at, fault, Read, read, roomIn, within, wholeTree, treeEntries, tableBytes}
 use Rattle.format.specs.declared.Entry.{Entry}
 use Rattle.cursor.specs.Words.{to}
 use Rattle.cursor.specs.declared.Cursor.{Cursor}
-use Rattle.tree.specs.Table.{putAll, Holds}
+use Rattle.tree.specs.Table.{putAll, Filled}
 use Rattle.tree.specs.Steps.{recordsAt, Stops, Went, treeInto, parsedOf}
 use Rattle.tree.specs.declared.Parsed.{Parsed}
 use Rattle.tree.specs.declared.Parsed.the-variants.{Entries, Refused}
@@ -32,7 +35,7 @@ put-over n es h = sets-over (tableBytes es) (zeros n) (rw (length-table, length-
 
 -- what is said of a tree's answer r, where its table of n bytes has become t
 abbrev Said : List ℕ → ℕ → ℕ → List ℕ → Parsed → Type 0
-Said d base n t r = (r ≡ parsedOf (treeInto d base n)) × ((es : List Entry) → treeInto d base n ≡ given es → Holds t n es)
+Said d base n t r = (r ≡ parsedOf (treeInto d base n)) × ((es : List Entry) → treeInto d base n ≡ given es → Filled t n es)
 
 room-cleared : (n : ℕ) {t : List ℕ} → t ≡ zeros n → roomIn (length t) ≡ roomIn n
 unfolding zeros
@@ -49,8 +52,8 @@ module _ (d : List ℕ) (base n : ℕ) {t : List ℕ} (cleared : t ≡ zeros n) 
       let h : 48 * length es ≤ n = omega arith in
       let b : t′ ≡ over (tableBytes es) (zeros n) = W .table ∙ ap (λ (x : List ℕ). putAll x 0 es) cleared ∙ put-over n es h in
       let k : w ≡ length es = omega (arith, W .used) in
-      let held : Holds t′ n es = record { bytes = b; room = h; fit = W .fit } in
-      (rw (q, k), λ fs z. let i : es ≡ fs = cc in subst (Holds t′ n) i held)
+      let held : Filled t′ n es = record { bytes = b; room = h; fit = W .fit } in
+      (rw (q, k), λ fs z. let i : es ≡ fs = cc in subst (Filled t′ n) i held)
 
   pub tree-refused : {x : ℕ} → Stops (roomIn (length t) - 0) (whole d base) x → Said d base n t′ (Refused x)
   unfolding wholeTree
@@ -60,7 +63,7 @@ module _ (d : List ℕ) (base n : ℕ) {t : List ℕ} (cleared : t ≡ zeros n) 
       let q : treeInto d base n ≡ refused x = rw z in
       (rw q, λ fs y. absurd (let z : _≡_ {A = ℕ} 0 1 = cc in omega arith))
 
--- ---- for callers: each answer, and the entries that the table then holds
+-- ---- for callers: what each answer tells, and what was read where a tree is whole
 
 pub parsed-entries : (a : Answer (List Entry)) (n : ℕ) → Entries n ≡ parsedOf a → (es : List Entry) × (a ≡ given es) × (n ≡ length es)
 parsed-entries (given es) n e = (es, refl, cc)
@@ -69,3 +72,16 @@ parsed-entries (refused x) n e = absurd (let z : _≡_ {A = ℕ} 0 1 = cc in ome
 pub parsed-refused : (a : Answer (List Entry)) (x : ℕ) → Refused x ≡ parsedOf a → a ≡ refused x
 parsed-refused (given es) x e = absurd (let z : _≡_ {A = ℕ} 0 1 = cc in omega arith)
 parsed-refused (refused y) x e = cc
+
+pub given-read : (d : List ℕ) (base n : ℕ) (es : List Entry) → treeInto d base n ≡ given es → (p : ℕ) × (read d base ≡ record { entries = es; stop = at p })
+unfolding within wholeTree
+given-read d base n es e = go (leb (length (read d base .entries)) (roomIn n)) e
+  where
+    told : (t : Stop) (fs : List Entry) → wholeTree t fs ≡ given es → (p : ℕ) × (t ≡ at p) × (fs ≡ es)
+    told (at p) fs e = (p, refl, cc)
+    told (fault x) fs e = absurd (let z : _≡_ {A = ℕ} 0 1 = cc in omega arith)
+
+    go : (b : Bool) → treeEntries (cond b (read d base) (record { entries = take (roomIn n) (read d base .entries); stop = fault why.table })) ≡ given es
+        → (p : ℕ) × (read d base ≡ record { entries = es; stop = at p })
+    go true e = let (p, q, r) = told (read d base .stop) (read d base .entries) e in (p, λ i. record { entries = r i; stop = q i })
+    go false e = absurd (let z : _≡_ {A = ℕ} 0 1 = cc in omega arith)

@@ -1,53 +1,21 @@
 -- The table of a tree: entries stored in it, and entries as they stand there.
-use Prim.Native.Nat.{ℕ, zero, suc, _+_, _*_, _^_, _≤_, _<_}
+use Prim.Native.Nat.{ℕ, _*_, _≤_}
 use mathlib.Core.Path.{_≡_}
-use mathlib.Core.List.{List, [], _∷_, _++_}
+use mathlib.Core.List.{List}
 use lib.ListN.{length}
 use lib.Seq.{sets}
-use Rattle.format.specs.Bytes.{le, over, zeros}
+use Rattle.format.specs.Bytes.{over, zeros}
 use Rattle.format.specs.Trees.{tableBytes}
 use Rattle.format.specs.declared.Entry.{Entry}
-
--- each number of an entry fits 64 bits
-pub record Fit (e : Entry) : Type 0 where
-  pub kind : e .kind < 2 ^ 64
-  pub name : e .name < 2 ^ 64
-  pub units : e .units < 2 ^ 64
-  pub value : e .value < 2 ^ 64
-  pub size : e .size < 2 ^ 64
-  pub parent : e .parent < 2 ^ 64
-
-abbrev pub AllFit : List Entry → Type 0
-AllFit [] = Unit
-AllFit (e ∷ es) = Fit e × AllFit es
+unfoldable pub use Rattle.format.specs.Table.{entryIn, firsts}
+pub use Rattle.format.specs.Table.{entriesIn, Fit, AllFit}
 
 -- the table t with the entries es stored from number u on
 unfoldable pub putAll : List ℕ → ℕ → List Entry → List ℕ
 putAll t u es = sets t (48 * u) (tableBytes es)
 
 -- t is a table of n bytes with the entries es, and zeros after them
-pub record Holds (t : List ℕ) (n : ℕ) (es : List Entry) : Type 0 where
+pub record Filled (t : List ℕ) (n : ℕ) (es : List Entry) : Type 0 where
   pub bytes : t ≡ over (tableBytes es) (zeros n)
   pub room : 48 * length es ≤ n
   pub fit : AllFit es
-
--- entry number i, as it stands in a table
-unfoldable pub entryIn : List ℕ → ℕ → Entry
-entryIn t i =
-    record {
-      kind = le 8 t (48 * i);
-      name = le 8 t (48 * i + 8);
-      units = le 8 t (48 * i + 16);
-      value = le 8 t (48 * i + 24);
-      size = le 8 t (48 * i + 32);
-      parent = le 8 t (48 * i + 40);
-    }
-
--- the first n of a row of entries
-unfoldable pub firsts : ℕ → (ℕ → Entry) → List Entry
-firsts zero e = []
-firsts (suc n) e = firsts n e ++ e n ∷ []
-
--- the first n entries of a table
-abbrev pub entriesIn : List ℕ → ℕ → List Entry
-entriesIn t n = firsts n (entryIn t)

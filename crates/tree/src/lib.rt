@@ -9,7 +9,7 @@ ghost use Rattle.format.specs.Text.{units};
 ghost use Rattle.format.specs.Trees.{known, fixedLen, textUnits, textValue, bytesValue, value, entryBytes, roomIn, Children};
 ghost use Rattle.format.specs.declared.Entry.{Entry};
 ghost use Rattle.cursor.specs.Words.{Within, to};
-ghost use Rattle.tree.specs.Table.{Fit, Holds};
+ghost use Rattle.tree.specs.Table.{Fit, Filled};
 ghost use Rattle.tree.specs.Steps.{HeadRead, LeafRead, LevelRead, Skipped, Headed, entryFor, recordsAt, valueAt, Ran, treeInto, parsedOf};
 
 pub mod clx_type;
@@ -323,12 +323,8 @@ fn parse_clx_records(
     let mut left = count;
     while 0 < left {
         match read_head(d, at) {
-            Head::End => {
-                return Step::Next(at, used);
-            }
-            Head::Bad(f) => {
-                return Step::Fault(f);
-            }
+            Head::End => return Step::Next(at, used),
+            Head::Bad(f) => return Step::Fault(f),
             Head::Named(n, v) => {
                 if table.len() / ENTRY_BYTES <= used {
                     return Step::Fault(refusal::TABLE);
@@ -339,9 +335,7 @@ fn parse_clx_records(
                     levels: p.levels,
                 };
                 match parse_clx_value(d, base, table, n, v, spot) {
-                    Step::Fault(f) => {
-                        return Step::Fault(f);
-                    }
+                    Step::Fault(f) => return Step::Fault(f),
                     Step::Next(next, u) => {
                         at = next;
                         used = u;
@@ -396,11 +390,12 @@ fn parse_clx_value(d: &[u8], base: u64, table: &mut [u8], n: Name, c: Cursor, p:
     }
 }
 
-// The tree in a part of a file that begins at `base`, read into the table, of which nothing is kept. What a refused tree leaves there is not said.
+// The tree in `data`, a part of a file that begins at `base`. Its entries go into the table, which is cleared first. What a refused tree leaves
+// there is not said.
 pub fn parse_clx_variant(data: &[u8], base: u64, table: &mut [u8]) -> Parsed
     requires { ⌜ base + length (now «data») < 2 ^ 64 ⌝ }
     ensures answer { λ r. ⌜ r ≡ parsedOf (treeInto (now («data» .entry)) base (length (now (table .entry)))) ⌝ }
-    ensures entries { λ _. ⌜ ((es : List Entry) → treeInto (now («data» .entry)) base (length (now (table .entry))) ≡ given es → Holds (now (table .exit)) (length (now (table .entry))) es) ⌝ }
+    ensures entries { λ _. ⌜ ((es : List Entry) → treeInto (now («data» .entry)) base (length (now (table .entry))) ≡ given es → Filled (now (table .exit)) (length (now (table .entry))) es) ⌝ }
 {
     clear(table);
     let end = data.len();

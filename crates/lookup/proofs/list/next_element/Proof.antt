@@ -1,0 +1,88 @@
+-- What comes after entry i comes after k, an entry in whose front i stands.
+use Prim.Native.Nat.{ℕ, _<_, _-_}
+use native.Mathlib.Omega.{arith}
+use mathlib.Core.Path.{sym, _∙_}
+use mathlib.Core.List.{List}
+use Rattle.lookup.specs.Table.{entryIn, found}
+use Rattle.lookup.proofs.Elements.{After, after-number, number-next, next-found, next-none, next-up, next-root}
+use Rattle.lookup.proofs.Search.{is-at, is-nothing, at-within}
+use Rattle.lookup.proofs.list.next_element.Statement.{statement}
+use Rattle.lookup.proofs.list.next_element.Tie as tie
+use borrow.Author.Needs.{needs}
+
+abbrev Inv-loop : tie.InvT-loop
+Inv-loop table used parent i k₀ k = (k < used) × ((ys : List ℕ) → After (entryIn table) used parent i ys → After (entryIn table) used parent k ys)
+
+abbrev μ-loop : tie.MeasureT-loop
+μ-loop table used parent i k₀ k = k
+
+loop-holds : tie.Need-loop-holds Inv-loop μ-loop
+loop-holds c = (c .before .pre .1, λ ys a. a)
+
+parent-at-requires : tie.Need-parent-at-requires Inv-loop μ-loop
+parent-at-requires c κs = let r = c .before .before .pre .0 .room in omega arith
+
+add-next-unnamed : tie.Need-add-next-unnamed Inv-loop μ-loop
+add-next-unnamed c = search needs
+
+next-unnamed-requires : tie.Need-next-unnamed-requires Inv-loop μ-loop
+next-unnamed-requires c κs =
+    let o = c .before .before .before .pre .0 .order .older _ (c .before .loop .inv .0) in
+    (c .before .before .before .pre .0, rw (c .parent-at .ensures) (omega arith))
+
+enum-known-j : tie.Need-enum-known-j Inv-loop μ-loop
+enum-known-j c = search needs
+
+returns : tie.Need-returns Inv-loop μ-loop
+unfolding found
+returns c =
+    let h = rw (c .before .before .before .before .parent-at .ensures) at (is-at _ _ _ (c .before .j .given .1) (c .before .before .before .next-unnamed .ensures .0)) in
+    (λ s m q. number-next s (entryIn _) _ _ m _ (next-found (entryIn _) _ _ _ _ (c .before .before .before .before .before .before .before .pre .0 .order) (c .before .before .before .before .before .loop .inv .1 _ (after-number s (entryIn _) _ _ m _ q)) _ h), at-within _ _ _ (c .before .j .given .1) (c .before .before .before .next-unnamed .ensures .1))
+
+enum-told : tie.Need-enum-told Inv-loop μ-loop
+enum-told c = search needs
+
+returns-2 : tie.Need-returns-2 Inv-loop μ-loop
+unfolding found
+returns-2 c =
+    let h = rw (c .before .before .before .before .parent-at .ensures) at (is-nothing _ _ (c .before .enum-told .given .1) (c .before .before .before .next-unnamed .ensures .0)) in
+    (λ s m q. number-next s (entryIn _) _ _ m _ (next-none (entryIn _) _ _ _ _ (c .before .before .before .before .before .before .before .pre .0 .order) (c .before .before .before .before .before .loop .inv .1 _ (after-number s (entryIn _) _ _ m _ q)) h (sym (c .before .before .before .before .parent-at .ensures) ∙ c .if1 .taken)), tt)
+
+returns-3 : tie.Need-returns-3 Inv-loop μ-loop
+unfolding found
+returns-3 c = (λ s m q. absurd (c .before .if1 .left (c .if2 .taken ∙ sym (next-root (entryIn _) _ _ _ _ (c .before .before .before .before .before .before .before .before .pre .0 .order) (c .before .before .before .before .before .before .loop .inv .1 _ (after-number s (entryIn _) _ _ m _ q)) (sym (c .before .before .before .before .before .parent-at .ensures) ∙ c .if2 .taken)))), tt)
+
+sub-k : tie.Need-sub-k Inv-loop μ-loop
+sub-k c = omega (arith, c .if2 .left)
+
+loop-less : tie.Need-loop-less Inv-loop μ-loop
+loop-less c =
+    let o = c .before .before .before .before .before .before .before .before .pre .0 .order .older _ (c .before .before .before .before .before .before .loop .inv .0) in
+    let e = c .before .before .before .before .before .parent-at .ensures in
+    omega (arith, c .if2 .left)
+
+loop-again : tie.Need-loop-again Inv-loop μ-loop
+loop-again c =
+    let o = c .before .before .before .before .before .before .before .before .pre .0 .order .older _ (c .before .before .before .before .before .before .loop .inv .0) in
+    let e = c .before .before .before .before .before .parent-at .ensures in
+    let h = rw e at (is-nothing _ _ (c .before .before .enum-told .given .1) (c .before .before .before .before .next-unnamed .ensures .0)) in
+    (omega (arith, c .if2 .left, c .before .before .before .before .before .before .loop .inv .0), λ ys a. rw e (next-up (entryIn _) _ _ _ ys (c .before .before .before .before .before .before .before .before .pre .0 .order) (c .before .before .before .before .before .before .loop .inv .1 ys a) h (λ z. c .before .if1 .left (e ∙ z))))
+
+pub next-element-spec : {M : Type 1} → statement M
+next-element-spec =
+    tie.close
+    (tie.spec
+    Inv-loop
+    μ-loop
+    loop-holds
+    parent-at-requires
+    add-next-unnamed
+    next-unnamed-requires
+    enum-known-j
+    returns
+    enum-told
+    returns-2
+    returns-3
+    sub-k
+    loop-less
+    loop-again)

@@ -1,0 +1,4 @@
+-- the entries that stand in a table; what the answers of the crate's functions say
+pub mod Table
+pub mod Values
+pub mod Walks

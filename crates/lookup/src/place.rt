@@ -1,0 +1,130 @@
+// The places of a level: its children that are the first of their name.
+ghost use mathlib.Core.Path.{_≡_};
+ghost use Prim.Native.Nat.{ℕ, _≤_, _<_};
+ghost use mathlib.Core.List.{List};
+ghost use mathlib.Core.Option.{some};
+ghost use lib.ListN.{length};
+ghost use Rattle.format.specs.Values.{slotsOf, slotValue, unnamed, asLevel};
+ghost use Rattle.lookup.specs.Table.{entryIn, entriesIn, Rows, Holds, Below, Run, found, Within};
+ghost use Rattle.lookup.specs.Values.{kids};
+ghost use Rattle.lookup.specs.Walks.{leads, slotAt, placeLevels, NextOf};
+use crate::Found;
+use crate::Next;
+use crate::Turn;
+use crate::entry::end_of;
+use crate::entry::entry_at;
+use crate::list::next_unnamed;
+use crate::named::last_alike;
+use crate::value::level_at;
+
+// Whether entry i of a level's run is a child, and the first of its name.
+pub fn is_place(file: &[u8], table: &[u8], used: usize, parent: usize, i: usize) -> bool
+    requires { ⌜ Holds (now file) (now table) used × Below (entryIn (now table)) used parent i × (i < used) ⌝ }
+    ensures { λ r. ⌜ r ≡ leads (now (file .entry)) (entryIn (now (table .entry))) parent i ⌝ }
+{
+    let e = entry_at(table, i);
+    if e.parent as usize == parent {
+        match last_alike(
+            file,
+            table,
+            used,
+            parent,
+            i,
+            e.name as usize,
+            e.units as usize,
+        ) {
+            Found::Nothing => true,
+            Found::At(_) => false,
+        }
+    } else {
+        false
+    }
+}
+
+// How many places a level has.
+pub fn count_places(file: &[u8], table: &[u8], used: usize, parent: usize) -> u64
+    requires { ⌜ Holds (now file) (now table) used × (parent ≤ used) ⌝ }
+    ensures { λ r. ⌜ r ≡ length (slotsOf (now (file .entry)) (entriesIn (now (table .entry)) used) parent) ⌝ }
+{
+    let end = end_of(table, used, parent);
+    let mut n: u64 = 0;
+    let mut i = parent;
+    while i < end {
+        if is_place(file, table, used, parent, i) {
+            n += 1;
+        }
+        i += 1;
+    }
+    n
+}
+
+// The level that the only unnamed child of a level is.
+fn unnamed_level(table: &[u8], used: usize, parent: usize) -> Found
+    requires { ⌜ Rows (now table) used × (parent ≤ used) ⌝ }
+    ensures { λ r. ⌜ ((s : List ℕ) → found r ≡ asLevel (some (slotValue s (entriesIn (now (table .entry)) used) (unnamed (kids (entryIn (now (table .entry))) parent 0 used))))) × Within used r ⌝ }
+{
+    match next_unnamed(table, used, parent, parent) {
+        Found::Nothing => Found::Nothing,
+        Found::At(i) => match next_unnamed(table, used, parent, i + 1) {
+            Found::Nothing => level_at(table, used, i),
+            Found::At(_) => Found::Nothing,
+        },
+    }
+}
+
+// The level that the value of a place is: the last value of its name.
+pub fn place_level(
+    file: &[u8],
+    table: &[u8],
+    used: usize,
+    parent: usize,
+    end: usize,
+    i: usize,
+) -> Found
+    requires { ⌜ Holds (now file) (now table) used × Run (entryIn (now table)) used parent end × (i < used) ⌝ }
+    ensures { λ r. ⌜ (found r ≡ asLevel (some (slotValue (now (file .entry)) (entriesIn (now (table .entry)) used) (slotAt (now (file .entry)) (entryIn (now (table .entry))) used parent i)))) × Within used r ⌝ }
+{
+    let e = entry_at(table, i);
+    let n = e.units as usize;
+    if n == 0 {
+        return unnamed_level(table, used, parent);
+    }
+    match last_alike(file, table, used, parent, end, e.name as usize, n) {
+        Found::Nothing => Found::Nothing,
+        Found::At(j) => level_at(table, used, j),
+    }
+}
+
+// The next child level of a level, from entry `from` of its run on.
+pub fn next_place(
+    file: &[u8],
+    table: &[u8],
+    used: usize,
+    parent: usize,
+    end: usize,
+    from: usize,
+) -> Next
+    requires { ⌜ Holds (now file) (now table) used × Run (entryIn (now table)) used parent end × (parent ≤ from) ⌝ }
+    ensures { λ r. ⌜ NextOf (now (file .entry)) (entryIn (now (table .entry))) used (placeLevels (now (file .entry)) (entryIn (now (table .entry))) used parent from) r ⌝ }
+{
+    let mut i = from;
+    while i < end {
+        if is_place(file, table, used, parent, i) {
+            match place_level(file, table, used, parent, end, i) {
+                Found::At(k) => {
+                    return Next::Child(
+                        k,
+                        Turn::Places {
+                            parent,
+                            end,
+                            at: i + 1,
+                        },
+                    );
+                }
+                Found::Nothing => {}
+            }
+        }
+        i += 1;
+    }
+    Next::End
+}
