@@ -1,26 +1,23 @@
 -- What the answers of a lookup, a chunk and a tree make of the tree under a name. Assumes nothing.
-use Prim.Native.Nat.{ℕ}
-use mathlib.Core.Path.{_≡_, refl, sym, ap, _∙_, subst}
+use Prim.Native.Nat.{ℕ, _+_, _^_, _≤_, _<_}
+use mathlib.Core.Path.{_≡_, refl, sym, ap, _∙_}
 use mathlib.Core.Option.{Option, none, some}
 use mathlib.Core.List.{List, []}
 use lib.ListN.{length}
+use Rattle.format.proofs.Reading.{whole-read}
 use Rattle.format.specs.Answer.{Answer, given, refused, andThen, orRefuse}
-use Rattle.format.specs.Bytes.{part}
+use Rattle.format.specs.Bytes.{part, over, zeros}
 use Rattle.format.specs.Chunks.{chunkData, dataIn}
 use Rattle.format.specs.Map.{MapEntry, mapEntries, offsetOf, namedChunk}
-use Rattle.format.specs.Trees.{treeIn, within, treeEntries, roomIn, namedTree}
+use Rattle.format.specs.Trees.{read, treeIn, within, treeEntries, roomIn, tableBytes, namedTree}
 use Rattle.format.specs.declared.Range.{Range}
 use Rattle.format.specs.declared.Entry.{Entry}
 use Rattle.chunk.specs.Answers.{findIn}
-use Rattle.tree.specs.Table.{Holds}
+use Rattle.lookup.proofs.Reading.{holds-read}
+use Rattle.tree.specs.Table.{Filled}
 use Rattle.tree.specs.Steps.{treeInto, parsedOf}
 use Rattle.tree.specs.declared.Parsed.{Parsed}
 use Rattle.named_tree.specs.Named.{treeAt, treeUnder, Reads}
-
--- what a tree's answer says, and what its table has
-pub parsed-reads : {t : List ℕ} {n : ℕ} (a : Answer (List Entry)) {r : Parsed} → r ≡ parsedOf a → ((es : List Entry) → a ≡ given es → Holds t n es) → Reads t n a r
-parsed-reads {t} {n} (given es) e h = rw e (record { entries = es; answer = refl; count = refl; table = h es refl })
-parsed-reads {t} {n} (refused x) e h = rw e refl
 
 -- ---- the chunk at an offset
 
@@ -33,11 +30,20 @@ module _ (s : List ℕ) (o n : ℕ) where
   unfolding treeAt andThen treeIn
   chunk-tree r e = rw (← e)
 
-  pub chunk-reads : {r : Range} {d t : List ℕ} {p : Parsed} → given r ≡ chunkData [] s o → d ≡ part s (r .start) (r .len) → p ≡ parsedOf (treeInto d (r .start) n)
-      → ((es : List Entry) → treeInto d (r .start) n ≡ given es → Holds t n es) → Reads t n (treeAt s (roomIn n) o) p
-  chunk-reads {r} {d} {t} {p} e q a h =
+  -- what the tree's answer says, and what its table has
+  pub chunk-reads : {r : Range} {d t : List ℕ} {p : Parsed} → length s < 2 ^ 64 → r .start + r .len ≤ length s → given r ≡ chunkData [] s o → d ≡ part s (r .start) (r .len)
+      → p ≡ parsedOf (treeInto d (r .start) n) → ((es : List Entry) → treeInto d (r .start) n ≡ given es → Filled t n es) → Reads s t n (treeAt s (roomIn n) o) p
+  chunk-reads {r} {d} {t} {p} small within e q a h =
       let z : treeInto d (r .start) n ≡ treeAt s (roomIn n) o = ap (λ (x : List ℕ). treeInto x (r .start) n) q ∙ sym (chunk-tree r e) in
-      subst (λ (x : Answer (List Entry)). Reads t n x p) z (parsed-reads (treeInto d (r .start) n) a h)
+      go (treeAt s (roomIn n) o) (chunk-tree r e) (a ∙ ap parsedOf z) λ es y. h es (z ∙ y)
+    where
+      go : (x : Answer (List Entry)) → x ≡ treeInto (dataIn s r) (r .start) n → p ≡ parsedOf x → ((es : List Entry) → x ≡ given es → Filled t n es) → Reads s t n x p
+      go (refused y) f g k = rw g refl
+      go (given es) f g k =
+          let (l, at, w) = whole-read (roomIn n) (read (dataIn s r) (r .start)) es (sym f) in
+          let b : t ≡ over (tableBytes es) (zeros n) = k es refl .bytes in
+          let y = holds-read s r es at n t small within w b in
+          rw g (record { answer = rw (y .entries) refl; bytes = rw (y .entries) b; holds = y .holds })
 
 -- ---- what a lookup found
 

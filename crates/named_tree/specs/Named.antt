@@ -3,13 +3,14 @@ use Prim.Native.Nat.{ℕ}
 use mathlib.Core.Path.{_≡_}
 use mathlib.Core.Option.{Option}
 use mathlib.Core.List.{List, []}
-use lib.ListN.{length}
 use Rattle.format.specs.Answer.{Answer, given, refused, andThen, orRefuse}
 use Rattle.format.specs.Refusals as why
 use Rattle.format.specs.Chunks.{chunkData}
-use Rattle.format.specs.Trees.{treeIn, within, wholeTree, treeEntries}
+use Rattle.format.specs.Bytes.{over, zeros}
+use Rattle.format.specs.Table.{entriesIn}
+use Rattle.format.specs.Trees.{treeIn, within, wholeTree, treeEntries, tableBytes}
 use Rattle.format.specs.declared.Entry.{Entry}
-use Rattle.tree.specs.Table.{Holds}
+use Rattle.lookup.specs.Table.{Holds}
 use Rattle.tree.specs.declared.Parsed.{Parsed}
 use Rattle.tree.specs.declared.Parsed.the-variants.{Entries, Refused}
 
@@ -23,13 +24,12 @@ unfoldable pub treeUnder : List ℕ → ℕ → Answer (Option ℕ) → Answer (
 unfolding treeAt
 treeUnder s room l = andThen l λ o. andThen (orRefuse o why.missing) (treeAt s room)
 
--- the answer is given, its entries are `used` many, and the table t of n bytes has them
-pub record Held (t : List ℕ) (n : ℕ) (a : Answer (List Entry)) (used : ℕ) : Type 0 where
-  pub entries : List Entry
-  pub answer : a ≡ given entries
-  pub count : used ≡ length entries
-  pub table : Holds t n entries
+-- The answer is given: its entries are the first `used` of the table t, whose n bytes are zero behind them; and the lookups may read them.
+pub record Held (file t : List ℕ) (n : ℕ) (a : Answer (List Entry)) (used : ℕ) : Type 0 where
+  pub answer : a ≡ given (entriesIn t used)
+  pub bytes : t ≡ over (tableBytes (entriesIn t used)) (zeros n)
+  pub holds : Holds file t used
 
-abbrev pub Reads : List ℕ → ℕ → Answer (List Entry) → Parsed → Type 0
-Reads t n a (Entries used) = Held t n a used
-Reads t n a (Refused x) = a ≡ refused x
+abbrev pub Reads : List ℕ → List ℕ → ℕ → Answer (List Entry) → Parsed → Type 0
+Reads file t n a (Entries used) = Held file t n a used
+Reads file t n a (Refused x) = a ≡ refused x

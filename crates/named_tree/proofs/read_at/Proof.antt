@@ -39,7 +39,9 @@ returns-2 : tie.Need-returns-2
 returns-2 c =
     let p = c .before .before .parse-clx-variant in
     let d = c .before .before .before .before in
-    chunk-reads _ _ _ (rw (d .before .before .r .given .1) at (d .before .before .before .before .chunk-data .ensures .0)) (d .data-of .ensures) (p .ensures .0) (p .ensures .1)
+    let r = d .before .before .r .given .1 in
+    let e = d .before .before .before .before .chunk-data .ensures in
+    chunk-reads _ _ _ (search needs) (rw r at (e .1)) (rw r at (e .0)) (d .data-of .ensures) (p .ensures .0) (p .ensures .1)
 
 pub read-at-spec : {M : Type 1} → statement M
 read-at-spec =
