@@ -69,7 +69,8 @@ distinct-three (a ∷ b ∷ c ∷ e ∷ ls) (cons (cons ab (cons ac (cons ae f�
     four : (a b c e : ℕ) → a < 3 → b < 3 → c < 3 → e < 3 → (b ≡ a → ⊥) → (c ≡ a → ⊥) → (e ≡ a → ⊥) → (c ≡ b → ⊥) → (e ≡ b → ⊥) → (e ≡ c → ⊥) → ⊥
     four a b c e ha hb hc he ab ac ae bc be ce = omega arith
 
-three-loops : (ls : List Loop) → length ls ≤ 3 → take (length ls) (inThree ls) ≡ ls
+-- the loops that are used of those in three places
+pub three-loops : (ls : List Loop) → length ls ≤ 3 → take (length ls) (inThree ls) ≡ ls
 three-loops ls h = take-take (length ls) 3 (ls ++ replicate 3 noLoop) h ∙ take-append-seam ls (replicate 3 noLoop)
 
 -- ---- the summary of a file

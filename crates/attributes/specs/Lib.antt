@@ -1,0 +1,2 @@
+-- what the crate's answers say
+pub mod Parsed

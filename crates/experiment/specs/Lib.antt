@@ -1,0 +1,2 @@
+-- what stands for the loops that were appended
+pub mod Kept

@@ -1,0 +1,3 @@
+// The loops of an experiment.
+
+pub mod kept;
