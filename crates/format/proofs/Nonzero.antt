@@ -128,7 +128,7 @@ one-some go f kids n bs x (a-loop {t = t} {c = c}) = by (eqb t 6)
     by true = all-some (λ i. go i n) (λ i cs. f i n cs) kids bs
     by false = all-some (λ i. go i (suc n)) (λ i cs. f i (suc n) cs) kids (append t c n bs)
 
-walk-some : (levels : ℕ) (s : List ℕ) (es : List Entry) (i n : ℕ) (bs : List Built) → Some (walk levels s es i n bs)
+pub walk-some : (levels : ℕ) (s : List ℕ) (es : List Entry) (i n : ℕ) (bs : List Built) → Some (walk levels s es i n bs)
 unfolding walk
 walk-some zero s es i n bs = answer
 walk-some (suc levels) s es i n bs = one-some (walk levels s es) (walk-some levels s es) _ n bs (said s es i) (said-fine s es i)

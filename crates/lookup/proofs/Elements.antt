@@ -371,37 +371,43 @@ climb e n p k ys o (deep c js zs h a q) = go (climb e n (suc c) k zs o a)
     go (up ws x y z) =
         up (ws ++ js) (omega (arith, x, low)) (deep c js ws h y refl) (q ∙ ap (λ (l : List ℕ). l ++ js) z ∙ append-assoc (kids e (e k .parent) (k + 1) n) ws js)
 
--- ---- the loop's laws
+-- ---- the next element, as the code has it: q is the level of entry k
 
-module _ (e : ℕ → Entry) (n p k : ℕ) (ys : List ℕ) (o : Ordered e n) (a : After e n p k ys) where
-  pub next-found : (j : ℕ) → some j ≡ headOf (kids e (e k .parent) (k + 1) n) → some j ≡ headOf ys
-  next-found j h = go (climb e n p k ys o a)
+module _ (e : ℕ → Entry) (n p k : ℕ) (ys : List ℕ) (o : Ordered e n) (a : After e n p k ys) (q : ℕ) (own : q ≡ e k .parent) where
+  level-kids : List ℕ
+  level-kids = kids e (e k .parent) (k + 1) n
+
+  pub next-found : (j : ℕ) → some j ≡ headOf (kids e q (k + 1) n) → some j ≡ headOf ys
+  unfolding level-kids
+  next-found j h = go (climb e n p k ys o a) (rw own at h)
     where
-      go : Climb e n p k ys → some j ≡ headOf ys
-      go (top x y) = rw y (rw x at h)
-      go (up zs x b y) = let w = head-kids (kids e (e k .parent) (k + 1) n) j h in rw (y, w .1)
+      go : Climb e n p k ys → some j ≡ headOf level-kids → some j ≡ headOf ys
+      go (top x y) h = rw y (rw x at h)
+      go (up zs x b y) h = let w = head-kids level-kids j h in rw (y, w .1)
 
-  pub next-none : none ≡ headOf (kids e (e k .parent) (k + 1) n) → e k .parent ≡ p → none ≡ headOf ys
-  next-none h x = go (climb e n p k ys o a)
+  pub next-none : none ≡ headOf (kids e q (k + 1) n) → q ≡ p → none ≡ headOf ys
+  unfolding level-kids
+  next-none h x = go (climb e n p k ys o a) (rw own at h)
     where
-      go : Climb e n p k ys → none ≡ headOf ys
-      go (top x y) = rw y (rw x at h)
-      go (up zs l b y) = absurd (omega (arith, l, x))
+      go : Climb e n p k ys → none ≡ headOf level-kids → none ≡ headOf ys
+      go (top x y) h = rw y (rw x at h)
+      go (up zs l b y) h = absurd (omega (arith, l, x, own))
 
-  pub next-up : none ≡ headOf (kids e (e k .parent) (k + 1) n) → (e k .parent ≡ p → ⊥) → After e n p (e k .parent - 1) ys
-  next-up h x = go (climb e n p k ys o a)
+  pub next-up : none ≡ headOf (kids e q (k + 1) n) → (q ≡ p → ⊥) → After e n p (q - 1) ys
+  unfolding level-kids
+  next-up h x = rw own (go (climb e n p k ys o a) (rw own at h))
     where
-      go : Climb e n p k ys → After e n p (e k .parent - 1) ys
-      go (top y z) = absurd (x y)
-      go (up zs l b y) = subst (After e n p (e k .parent - 1)) (sym (y ∙ rw (none-kids (kids e (e k .parent) (k + 1) n) h))) b
+      go : Climb e n p k ys → none ≡ headOf level-kids → After e n p (e k .parent - 1) ys
+      go (top y z) h = absurd (x (own ∙ y))
+      go (up zs l b y) h = subst (After e n p (e k .parent - 1)) (sym (y ∙ rw (none-kids level-kids h))) b
 
-  -- only the whole tree has the parent number 0
-  pub next-root : e k .parent ≡ 0 → p ≡ 0
+  -- only the whole tree has the number 0
+  pub next-root : q ≡ 0 → p ≡ 0
   next-root z = go (climb e n p k ys o a)
     where
       go : Climb e n p k ys → p ≡ 0
-      go (top y w) = sym y ∙ z
-      go (up zs l b y) = absurd (omega (arith, l, z))
+      go (top y w) = sym y ∙ sym own ∙ z
+      go (up zs l b y) = absurd (omega (arith, l, z, own))
 
 -- whether entry i is a list, as the code has it
 module _ (s : List ℕ) (e : ℕ → Entry) (n i : ℕ) (r : Entry) (q : r ≡ e i) where

@@ -11,7 +11,7 @@ use lib.ListN.{length, getElem?, length-append}
 use Rattle.format.proofs.Puts.{step, slots-none, slots-last}
 use Rattle.format.specs.Values.{slotsOf}
 use Rattle.format.specs.declared.Entry.{Entry}
-use Rattle.lookup.specs.Table.{firsts, Ordered, Below, Run, Child}
+use Rattle.lookup.specs.Table.{firsts, Ordered, Below, Child}
 
 -- ---- the first n
 
@@ -64,7 +64,7 @@ slots-until s p i n e l h =
     go zero h = rw add-zero
     go (suc m) h = rw add-suc (slots-same s p (i + m) e (h (i + m) (omega arith) (omega arith)) ∙ go m (λ k a b. h k a (omega arith)))
 
--- ---- the entries of a level: none before its own, and in its run all of them
+-- ---- no child before the level's own entry
 
 module _ (e : ℕ → Entry) (n p : ℕ) (o : Ordered e n) where
   pub child-after : (k : ℕ) → k < n → k < p → e k .parent ≡ p → ⊥
@@ -73,9 +73,6 @@ module _ (e : ℕ → Entry) (n p : ℕ) (o : Ordered e n) where
   pub slots-low : (s : List ℕ) (i : ℕ) → i ≤ p → i ≤ n → slotsOf s (firsts i e) p ≡ []
   slots-low s zero l m = slots-start s p e
   slots-low s (suc i) l m = slots-same s p i e (child-after i m l) ∙ slots-low s i (omega arith) (omega arith)
-
-pub slots-run : (s : List ℕ) (e : ℕ → Entry) (n p r : ℕ) → Run e n p r → slotsOf s (firsts n e) p ≡ slotsOf s (firsts r e) p
-slots-run s e n p r h = slots-until s p r n e (h .below .high) (h .over)
 
 -- ---- a part of a level's run
 

@@ -28,7 +28,8 @@ add-next-unnamed c = search needs
 next-unnamed-requires : tie.Need-next-unnamed-requires Inv-loop μ-loop
 next-unnamed-requires c κs =
     let o = c .before .before .before .pre .0 .order .older _ (c .before .loop .inv .0) in
-    (c .before .before .before .pre .0, rw (c .parent-at .ensures) (omega arith))
+    let e = c .parent-at .ensures in
+    (c .before .before .before .pre .0, omega arith)
 
 enum-known-j : tie.Need-enum-known-j Inv-loop μ-loop
 enum-known-j c = search needs
@@ -36,8 +37,8 @@ enum-known-j c = search needs
 returns : tie.Need-returns Inv-loop μ-loop
 unfolding found
 returns c =
-    let h = rw (c .before .before .before .before .parent-at .ensures) at (is-at _ _ _ (c .before .j .given .1) (c .before .before .before .next-unnamed .ensures .0)) in
-    (λ s m q. number-next s (entryIn _) _ _ m _ (next-found (entryIn _) _ _ _ _ (c .before .before .before .before .before .before .before .pre .0 .order) (c .before .before .before .before .before .loop .inv .1 _ (after-number s (entryIn _) _ _ m _ q)) _ h), at-within _ _ _ (c .before .j .given .1) (c .before .before .before .next-unnamed .ensures .1))
+    let h = is-at _ _ _ (c .before .j .given .1) (c .before .before .before .next-unnamed .ensures .0) in
+    (λ s m q. number-next s (entryIn _) _ _ m _ (next-found (entryIn _) _ _ _ _ (c .before .before .before .before .before .before .before .pre .0 .order) (c .before .before .before .before .before .loop .inv .1 _ (after-number s (entryIn _) _ _ m _ q)) _ (c .before .before .before .before .parent-at .ensures) _ h), at-within _ _ _ (c .before .j .given .1) (c .before .before .before .next-unnamed .ensures .1))
 
 enum-told : tie.Need-enum-told Inv-loop μ-loop
 enum-told c = search needs
@@ -45,12 +46,12 @@ enum-told c = search needs
 returns-2 : tie.Need-returns-2 Inv-loop μ-loop
 unfolding found
 returns-2 c =
-    let h = rw (c .before .before .before .before .parent-at .ensures) at (is-nothing _ _ (c .before .enum-told .given .1) (c .before .before .before .next-unnamed .ensures .0)) in
-    (λ s m q. number-next s (entryIn _) _ _ m _ (next-none (entryIn _) _ _ _ _ (c .before .before .before .before .before .before .before .pre .0 .order) (c .before .before .before .before .before .loop .inv .1 _ (after-number s (entryIn _) _ _ m _ q)) h (sym (c .before .before .before .before .parent-at .ensures) ∙ c .if1 .taken)), tt)
+    let h = is-nothing _ _ (c .before .enum-told .given .1) (c .before .before .before .next-unnamed .ensures .0) in
+    (λ s m q. number-next s (entryIn _) _ _ m _ (next-none (entryIn _) _ _ _ _ (c .before .before .before .before .before .before .before .pre .0 .order) (c .before .before .before .before .before .loop .inv .1 _ (after-number s (entryIn _) _ _ m _ q)) _ (c .before .before .before .before .parent-at .ensures) h (c .if1 .taken)), tt)
 
 returns-3 : tie.Need-returns-3 Inv-loop μ-loop
 unfolding found
-returns-3 c = (λ s m q. absurd (c .before .if1 .left (c .if2 .taken ∙ sym (next-root (entryIn _) _ _ _ _ (c .before .before .before .before .before .before .before .before .pre .0 .order) (c .before .before .before .before .before .before .loop .inv .1 _ (after-number s (entryIn _) _ _ m _ q)) (sym (c .before .before .before .before .before .parent-at .ensures) ∙ c .if2 .taken)))), tt)
+returns-3 c = (λ s m q. absurd (c .before .if1 .left (c .if2 .taken ∙ sym (next-root (entryIn _) _ _ _ _ (c .before .before .before .before .before .before .before .before .pre .0 .order) (c .before .before .before .before .before .before .loop .inv .1 _ (after-number s (entryIn _) _ _ m _ q)) _ (c .before .before .before .before .before .parent-at .ensures) (c .if2 .taken)))), tt)
 
 sub-k : tie.Need-sub-k Inv-loop μ-loop
 sub-k c = omega (arith, c .if2 .left)
@@ -65,8 +66,8 @@ loop-again : tie.Need-loop-again Inv-loop μ-loop
 loop-again c =
     let o = c .before .before .before .before .before .before .before .before .pre .0 .order .older _ (c .before .before .before .before .before .before .loop .inv .0) in
     let e = c .before .before .before .before .before .parent-at .ensures in
-    let h = rw e at (is-nothing _ _ (c .before .before .enum-told .given .1) (c .before .before .before .before .next-unnamed .ensures .0)) in
-    (omega (arith, c .if2 .left, c .before .before .before .before .before .before .loop .inv .0), λ ys a. rw e (next-up (entryIn _) _ _ _ ys (c .before .before .before .before .before .before .before .before .pre .0 .order) (c .before .before .before .before .before .before .loop .inv .1 ys a) h (λ z. c .before .if1 .left (e ∙ z))))
+    let h = is-nothing _ _ (c .before .before .enum-told .given .1) (c .before .before .before .before .next-unnamed .ensures .0) in
+    (omega (arith, c .if2 .left, c .before .before .before .before .before .before .loop .inv .0), λ ys a. next-up (entryIn _) _ _ _ ys (c .before .before .before .before .before .before .before .before .pre .0 .order) (c .before .before .before .before .before .before .loop .inv .1 ys a) _ e h (c .before .if1 .left))
 
 pub next-element-spec : {M : Type 1} → statement M
 next-element-spec =
