@@ -1,0 +1,58 @@
+-- `named_tree::read_at`: the chunk at the offset, and the tree in its data.
+use mathlib.Core.Path.{ap, _∙_}
+use native.Mathlib.Omega.{arith}
+use lib.ListN.{length}
+use Rattle.format.proofs.Bytes.{part-length}
+use Rattle.named_tree.proofs.Answers.{no-chunk, chunk-reads}
+use borrow.Author.Needs.{needs}
+use Rattle.named_tree.proofs.read_at.Statement.{statement}
+use Rattle.named_tree.proofs.read_at.Tie as tie
+
+slice-aggregate-chunk-data : tie.Need-slice-aggregate-chunk-data
+slice-aggregate-chunk-data c = search needs
+
+chunk-data-requires : tie.Need-chunk-data-requires
+chunk-data-requires c κs = search needs
+
+enum-told : tie.Need-enum-told
+enum-told c = search needs
+
+enum-known-r : tie.Need-enum-known-r
+enum-known-r c = search needs
+
+data-of-requires : tie.Need-data-of-requires
+data-of-requires c κs = rw (c .before .r .given .1) at (c .before .before .before .chunk-data .ensures .1)
+
+parse-clx-variant-requires : tie.Need-parse-clx-variant-requires
+parse-clx-variant-requires c κs =
+    let r = c .before .before .before in
+    let h = rw (r .r .given .1) at (r .before .before .chunk-data .ensures .1) in
+    omega (arith, h, ap length (c .before .data-of .ensures) ∙ part-length _ _ _ h)
+
+returns : tie.Need-returns
+returns c = no-chunk _ _ _ (rw (c .enum-told .given .1) at (c .before .before .chunk-data .ensures .0))
+
+same-length : tie.Need-same-length
+same-length c = search needs
+
+returns-2 : tie.Need-returns-2
+returns-2 c =
+    let p = c .before .before .parse-clx-variant in
+    let d = c .before .before .before .before in
+    let r = d .before .before .r .given .1 in
+    let e = d .before .before .before .before .chunk-data .ensures in
+    chunk-reads _ _ _ (search needs) (rw r at (e .1)) (rw r at (e .0)) (d .data-of .ensures) (p .ensures .0) (p .ensures .1)
+
+pub read-at-spec : {M : Type 1} → statement M
+read-at-spec =
+    tie.close
+    (tie.spec
+    slice-aggregate-chunk-data
+    chunk-data-requires
+    enum-told
+    enum-known-r
+    data-of-requires
+    parse-clx-variant-requires
+    returns
+    same-length
+    returns-2)
