@@ -28,7 +28,7 @@ ghost use Rattle.format.specs.Demands.{Refuses, None};
 ghost use Rattle.format.specs.declared.Range.{Range};
 ghost use Rattle.plane.specs.Found.{frameAnswer, foundAt, planeIn, Fit};
 
-pub mod copy; // rows of bytes
+mod copy; // rows of bytes
 
 // The number of a plane that is accepted.
 const ACCEPTED: u32 = 0;
