@@ -1,0 +1,2 @@
+-- the size that a calibration tree has, before it is judged
+pub mod Size
