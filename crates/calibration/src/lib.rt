@@ -2,12 +2,19 @@
 ghost use mathlib.Core.Path.{_≡_};
 ghost use mathlib.Core.Bool.{cond};
 ghost use mathlib.Core.Option.{none, some};
+ghost use Prim.Native.Nat.{_<_};
 ghost use lib.Dec.{eqb};
 ghost use Rattle.format.specs.Refusals as why;
-ghost use Rattle.format.specs.Calibration.{aboveZero, pixelSize, zFloat, unstated, stated};
+ghost use Rattle.format.specs.Trees.{mostDepth};
+ghost use Rattle.format.specs.Calibration.{aboveZero, pixelSize, zStep, zFloat, unstated, stated};
 ghost use Rattle.number.specs.Readings.{real};
 ghost use Rattle.lookup.specs.Table.{entriesIn, Holds};
 ghost use Rattle.calibration.specs.Size.{sizeIn};
+
+pub mod step;
+
+use crate::step::step_from;
+use experiment::MAX_EXP_DEPTH;
 use format::Calibration;
 use format::refusal;
 use lookup::Found;
@@ -23,6 +30,16 @@ use number::z_class;
 const STATED: u64 = 1;
 
 const PACKED: u64 = 2;
+
+// ---- the z step
+
+// The z step that an experiment's levels state, the first in tree order.
+pub fn find_z_step(file: &[u8], table: &[u8], used: usize, i: usize) -> Real
+    requires { ⌜ Holds (now file) (now table) used × (i < used) ⌝ }
+    ensures { λ r. ⌜ real r ≡ zStep mostDepth (now (file .entry)) (entriesIn (now (table .entry)) used) i ⌝ }
+{
+    step_from(file, table, used, i, MAX_EXP_DEPTH)
+}
 
 // ---- the pixel size
 
