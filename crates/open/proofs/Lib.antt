@@ -1,0 +1,4 @@
+pub mod Saying
+pub mod Running
+pub mod Order
+pub mod Promises

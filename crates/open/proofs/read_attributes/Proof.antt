@@ -1,0 +1,47 @@
+-- `read_attributes`: the tree's refusal, or what its entries say.
+use mathlib.Core.Path.{refl, sym, _∙_}
+use Rattle.format.proofs.Answers.{go-on}
+use Rattle.open.proofs.Saying.{stops}
+use borrow.Author.Needs.{needs}
+use Rattle.open.proofs.read_attributes.Statement.{statement}
+use Rattle.open.proofs.read_attributes.Tie as tie
+
+read-named-requires : tie.Need-read-named-requires
+read-named-requires c κs = search needs
+
+enum-known-n : tie.Need-enum-known-n
+enum-known-n c = search needs
+
+enum-known-used : tie.Need-enum-known-used
+enum-known-used c = search needs
+
+parse-attributes-requires : tie.Need-parse-attributes-requires
+parse-attributes-requires c κs = let k = c .before in rw (k .before .used .given .1) at (k .before .before .before .before .before .read-named .ensures) .holds
+
+same-length : tie.Need-same-length
+same-length c = search needs
+
+returns : tie.Need-returns
+returns c = sym (stops _ _ (rw (c .before .n .given .1) at (c .before .before .before .before .before .read-named .ensures)))
+
+same-length-2 : tie.Need-same-length-2
+same-length-2 c = search needs
+
+returns-2 : tie.Need-returns-2
+returns-2 c =
+    let k = c .before .before in
+    let h = rw (k .before .used .given .1) at (k .before .before .before .before .before .read-named .ensures) in
+    c .parse-attributes .ensures ∙ sym (go-on _ _ _ (h .answer) refl)
+
+pub read-attributes-spec : {M : Type 1} → statement M
+read-attributes-spec =
+    tie.close
+    (tie.spec
+    read-named-requires
+    enum-known-n
+    enum-known-used
+    parse-attributes-requires
+    same-length
+    returns
+    same-length-2
+    returns-2)

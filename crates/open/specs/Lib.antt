@@ -1,0 +1,2 @@
+-- what each part of an opening answers
+pub mod Parts
