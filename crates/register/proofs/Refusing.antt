@@ -1,5 +1,5 @@
 -- The refusals of a register, test by test, what is left where none holds, and what the call's number and buffer promise. Assumes nothing.
-use Prim.Native.Nat.{ℕ, _*_, _^_, _≤_, _<_}
+use Prim.Native.Nat.{ℕ, zero, suc, _*_, _^_, _≤_, _<_}
 use mathlib.Core.Path.{_≡_, refl, sym, ap, _∙_}
 use mathlib.Core.Logic.{_↔_}
 use mathlib.Core.Bool.{Bool, true, false, _||_}
@@ -75,16 +75,22 @@ module _ (s : List ℕ) (u : Summary) (room : ℕ) where
           by (refused k) (refusal h) p = absurd (omega arith)
           by (given es) h p = f es
 
-      pub bad-room : room < size → why.buffer ≡ numberOf (registered s u room)
+      short : room < size → why.buffer ≡ numberOf (registered s u room)
       unfolding andThen numberOf refuseIf
-      bad-room h =
-          read (λ a. why.buffer ≡ numberOf (andThen a room-for)) (λ es. rw (or-second (ltb most64 size) (ltb room size) (lt-ltb _ _ h)) refl) ∙ after
+      short h =
+          read (λ a. why.buffer ≡ numberOf (andThen a room-for)) (λ es. rw (or-second (ltb most64 size) (ltb room size) (lt-ltb room size h)) refl) ∙ after
 
-      pub good : size ≤ room → room < 2 ^ 64 → 0 ≡ numberOf (registered s u room)
+      long : size ≤ room → room < 2 ^ 64 → 0 ≡ numberOf (registered s u room)
       unfolding andThen numberOf refuseIf
-      good h l =
+      long h l =
           read (λ a. 0 ≡ numberOf (andThen a room-for))
           (λ es. rw (or-none (ltb most64 size) (ltb room size) (le-ltb most64 size (omega arith)) (le-ltb room size h)) refl) ∙ after
+
+      -- the number that the buffer gives is what is left
+      pub of-room : room < 2 ^ 64 → (r : ℕ) {count : ℕ} → count ≡ frames (loopsOf u) → (r ≡ 0 → 24 * count ≤ room) × (0 < r → (r ≡ 25) × (room < 24 * count))
+          → r ≡ numberOf (registered s u room)
+      of-room l zero c (f, g) = let h = f refl in long (omega arith) l
+      of-room l (suc r) c (f, g) = let (q, h) = g (omega arith) in q ∙ short (omega arith)
 
   -- none holds
   pub ready : numberOf (registered s u room) ≡ 0 → Ready s u room

@@ -109,7 +109,17 @@ fn put_entries(map: &[u8], buffer: &mut [u8], count: u64)
     }
 }
 
-// The number of a register's first refusal, of a buffer of `room` bytes: 24 × frames may pass 2^64.
+// The number that a buffer of `room` bytes gives for the records of `count` frames: 0, or 25. 24 × count may pass 2^64.
+fn room_check(room: usize, count: u64) -> u32
+    ensures { λ r. ⌜ (r ≡ 0 → 24 * count ≤ room) × (0 < r → (r ≡ 25) × (room < 24 * count)) ⌝ }
+{
+    if ((room / 24) as u64) < count {
+        return refusal::BUFFER;
+    }
+    ACCEPTED
+}
+
+// The number of a register's first refusal, of a buffer of `room` bytes.
 fn refused_by(file: &[u8], u: Summary, room: usize) -> u32
     ensures { λ r. ⌜ r ≡ numberOf (registered (now (file .entry)) u room) ⌝ }
 {
@@ -121,10 +131,7 @@ fn refused_by(file: &[u8], u: Summary, room: usize) -> u32
     if n != ACCEPTED {
         return n;
     }
-    if ((room / 24) as u64) < frames(u) {
-        return refusal::BUFFER;
-    }
-    ACCEPTED
+    room_check(room, frames(u))
 }
 
 // The record of every frame, in order, into the lent bytes; 0, or the number of the first refusal.

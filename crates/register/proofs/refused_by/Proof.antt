@@ -8,7 +8,7 @@ use Rattle.format.specs.Answer.{numberOf}
 use Rattle.format.specs.Map.{mapEntries}
 use Rattle.format.specs.Summary.{mapOf, badSummary}
 use Rattle.format.proofs.Summaries.{sound-read}
-use Rattle.register.proofs.Refusing.{bad-summary, bad-map, bad-room, good}
+use Rattle.register.proofs.Refusing.{bad-summary, bad-map, of-room}
 use Rattle.register.proofs.refused_by.Statement.{statement}
 use Rattle.register.proofs.refused_by.Tie as tie
 
@@ -50,19 +50,15 @@ frames-requires c κs =
     let a = b .before .before .before .args in
     sound-read (now (a .file)) (a .u) (passed b) .loops-counted
 
+room-check-requires : tie.Need-room-check-requires
+room-check-requires c κs = search needs
+
 returns-3 : tie.Need-returns-3
 returns-3 c =
     let k = c .before .before in
     let b = k .before .before .before in
     let a = b .before .before .before .args in
-    bad-room (now (a .file)) (a .u) (a .room) (passed b) (checked (k .before)) (k .if2 .left) (omega (arith, c .before .frames .ensures, c .if3 .taken))
-
-returns-4 : tie.Need-returns-4
-returns-4 c =
-    let k = c .before .before in
-    let b = k .before .before .before in
-    let a = b .before .before .before .args in
-    good (now (a .file)) (a .u) (a .room) (passed b) (checked (k .before)) (k .if2 .left) (omega (arith, c .before .frames .ensures, c .if3 .left)) (search needs)
+    of-room (now (a .file)) (a .u) (a .room) (passed b) (checked (k .before)) (k .if2 .left) (search needs) _ (c .before .frames .ensures) (c .room-check .ensures)
 
 pub refused-by-spec : {M : Type 1} → statement M
 refused-by-spec =
@@ -74,5 +70,5 @@ refused-by-spec =
     map-check-requires
     returns-2
     frames-requires
-    returns-3
-    returns-4)
+    room-check-requires
+    returns-3)
