@@ -1,0 +1,5 @@
+pub mod Decimals
+pub mod Prefixed
+pub mod Records
+pub mod Entering
+pub mod Refusing
