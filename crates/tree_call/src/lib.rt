@@ -1,0 +1,60 @@
+// The tree call: the tree of the chunk that the map has under a name, in the lent table.
+use chunk::data_of;
+use chunk::map::look_up;
+use cursor::clear;
+use format::Summary;
+use format::refusal;
+use named_tree::read_named;
+use summary::bad_summary;
+use tree::Parsed;
+ghost use mathlib.Core.Path.{_≡_};
+ghost use mathlib.Core.Logic.{_↔_};
+ghost use mathlib.Core.List.{List};
+ghost use lib.ListN.{length};
+ghost use Rattle.format.specs.Bytes.{over, zeros};
+ghost use Rattle.format.specs.Trees.{roomIn, tableBytes};
+ghost use Rattle.format.specs.Calls.Tree.{treeNamed, treeCall};
+ghost use Rattle.format.specs.Grammar.Trees.{Tree};
+ghost use Rattle.format.specs.Refused.Order.{First};
+ghost use Rattle.format.specs.Refused.Tree.{NameData, TreeRefusal, treeOrder};
+ghost use Rattle.format.specs.Demands.{Refuses, None};
+ghost use Rattle.format.specs.declared.Range.{Range};
+ghost use Rattle.format.specs.declared.Entry.{Entry};
+ghost use Rattle.named_tree.specs.Named.{Reads};
+
+// The number of a tree that is read whole.
+const ACCEPTED: u32 = 0;
+
+// The tree under a name, and every refusal in order. What a refused tree leaves in the table is not said.
+fn tree_named(file: &[u8], u: Summary, name: &[u8], table: &mut [u8]) -> Parsed
+    ensures { λ r. ⌜ Reads (now (file .entry)) (now (table .exit)) (length (now (table .entry))) (treeNamed (now (file .entry)) u (now (name .entry)) (roomIn (length (now (table .entry))))) r ⌝ }
+{
+    if bad_summary(file, u) {
+        return Parsed::Refused(refusal::SUMMARY);
+    }
+    let map = data_of(file, u.map.start, u.map.len);
+    read_named(file, look_up(map, name), table)
+}
+
+// A refusal's number, and a table of zeros.
+fn refuse(table: &mut [u8], n: u32) -> u32
+    ensures { λ r. ⌜ (r ≡ n) × (now (table .exit) ≡ zeros (length (now (table .entry)))) ⌝ }
+{
+    clear(table);
+    n
+}
+
+// The entries of the tree under a name, in file order and with zeros behind them; 0, or the number of the first refusal and a table of zeros.
+pub fn tree(file: &[u8], u: Summary, name: &[u8], table: &mut [u8]) -> u32
+    ensures number { λ r. ⌜ r ≡ treeCall (now (file .entry)) u (now (name .entry)) (now (table .entry)) .number ⌝ }
+    ensures buffer { λ _. ⌜ now (table .exit) ≡ treeCall (now (file .entry)) u (now (name .entry)) (now (table .entry)) .buffer ⌝ }
+    ensures first { λ r. ⌜ First (TreeRefusal (now (file .entry)) u (now (name .entry)) (roomIn (length (now (table .entry))))) treeOrder r ⌝ }
+    ensures accepted { λ r. ⌜ ((r ≡ 0) ↔ None (TreeRefusal (now (file .entry)) u (now (name .entry)) (roomIn (length (now (table .entry)))))) ⌝ }
+    ensures entries { λ r. ⌜ (r ≡ 0 → (p : Range) × (es : List Entry) × NameData (now (file .entry)) u (now (name .entry)) p × Tree (now (file .entry)) p es × (now (table .exit) ≡ over (tableBytes es) (zeros (length (now (table .entry)))))) ⌝ }
+    ensures cleared { λ r. ⌜ (Refuses r → now (table .exit) ≡ zeros (length (now (table .entry)))) ⌝ }
+{
+    match tree_named(file, u, name, table) {
+        Parsed::Entries(_) => ACCEPTED,
+        Parsed::Refused(n) => refuse(table, n),
+    }
+}
