@@ -40,9 +40,9 @@ module _ (s : List ℕ) (es : List Entry) (i levels : ℕ) where
         go l m e = unfold zStep in rw e refl
 
     -- the level's own step comes first
-    pub step-own : (x : Float) → some x ≡ stepAt s es i → some x ≡ zStep levels s es i
+    pub step-own : (o : Option Float) (x : Float) → o ≡ some x → o ≡ stepAt s es i → o ≡ zStep levels s es i
     unfolding orElse
-    step-own x e = sym (step-one ∙ rw (← e) refl)
+    step-own o x q e = q ∙ sym (step-one ∙ rw (← e, q) refl)
 
     pub step-below : (f : Option Value) (l : List ℕ) (o : Option Float)
         → none ≡ stepAt s es i → f ≡ fieldIn s es i (ascii "ppNextLevelEx") → childLevels s es f ≡ l → o ≡ firstOf (zStep (levels - 1) s es) l → o ≡ zStep levels s es i

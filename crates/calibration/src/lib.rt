@@ -62,9 +62,10 @@ fn above_zero(size: Real) -> Real
         return Real::Absent;
     };
     if positive(x) {
-        return Real::Is(x);
+        Real::Is(x)
+    } else {
+        Real::Absent
     }
-    Real::Absent
 }
 
 // The pixel size that a tree states.

@@ -136,12 +136,11 @@ pub fn step_from(file: &[u8], table: &[u8], used: usize, i: usize, levels: u64) 
     if levels == 0 {
         return Real::Absent;
     }
-    match own_step(file, table, used, i) {
-        Real::Is(x) => Real::Is(x),
-        Real::Absent => {
-            let next = get(file, table, used, i + 1, b"ppNextLevelEx");
-            let turn = children(table, used, next);
-            first_step(file, table, used, turn, levels - 1)
-        }
-    }
+    let own = own_step(file, table, used, i);
+    let Real::Absent = own else {
+        return own;
+    };
+    let next = get(file, table, used, i + 1, b"ppNextLevelEx");
+    let turn = children(table, used, next);
+    first_step(file, table, used, turn, levels - 1)
 }

@@ -1,5 +1,7 @@
 -- `above_zero`: none, above 0 or not.
-use mathlib.Core.Path.{refl}
+use mathlib.Core.Path.{refl, sym, ap, _∙_}
+use mathlib.Core.Bool.{Bool, cond}
+use mathlib.Core.Option.{none, some}
 use Rattle.format.specs.Calibration.{aboveZero}
 use borrow.Author.Needs.{needs}
 use Rattle.calibration.proofs.above_zero.Statement.{statement}
@@ -20,11 +22,15 @@ positive-requires c κs = search needs
 
 returns-2 : tie.Need-returns-2
 unfolding aboveZero
-returns-2 c = rw (c .before .before .before .size .given .1, ← c .before .positive .ensures, c .if1 .taken) refl
+returns-2 c =
+    let x = c .before .before .before .size .given .0 .0 in
+    rw (c .before .before .before .size .given .1) (sym (ap (λ (b : Bool). cond b (some x) none) (sym (c .before .positive .ensures) ∙ c .if1 .taken)))
 
 returns-3 : tie.Need-returns-3
 unfolding aboveZero
-returns-3 c = rw (c .before .before .before .size .given .1, ← c .before .positive .ensures, c .if1 .left) refl
+returns-3 c =
+    let x = c .before .before .before .size .given .0 .0 in
+    rw (c .before .before .before .size .given .1) (sym (ap (λ (b : Bool). cond b (some x) none) (sym (c .before .positive .ensures) ∙ c .if1 .left)))
 
 pub above-zero-spec : {M : Type 1} → statement M
 above-zero-spec =

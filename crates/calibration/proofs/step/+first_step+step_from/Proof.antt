@@ -121,11 +121,14 @@ step-from-returns t c = step-zero _ _ _ _ (c .if1 .taken)
 step-from-own-step-requires : (t : ℕ) → step-from-lts.Need-own-step-requires (one t) (step-from-at t) step-from.Post
 step-from-own-step-requires t c κs = search needs
 
-step-from-enum-known-x : (t : ℕ) → step-from-lts.Need-enum-known-x (one t) (step-from-at t) step-from.Post
-step-from-enum-known-x t c = search needs
-
 step-from-enum-told : (t : ℕ) → step-from-lts.Need-enum-told (one t) (step-from-at t) step-from.Post
 step-from-enum-told t c = search needs
+
+step-from-enum-told-2 : (t : ℕ) → step-from-lts.Need-enum-told-2 (one t) (step-from-at t) step-from.Post
+step-from-enum-told-2 t c = search needs
+
+step-from-returns-2 : (t : ℕ) → step-from-lts.Need-returns-2 (one t) (step-from-at t) step-from.Post
+step-from-returns-2 t c = step-own _ _ _ _ (c .before .before .before .if1 .left) _ _ (ap real (c .enum-told2 .given .1)) (c .before .before .own-step .ensures)
 
 step-from-add-get : (t : ℕ) → step-from-lts.Need-add-get (one t) (step-from-at t) step-from.Post
 step-from-add-get t c = search needs
@@ -144,9 +147,6 @@ step-from-sub-first-step t c = search needs
 
 step-from-first-step-requires : (t : ℕ) → step-from-lts.Need-first-step-requires (one t) (step-from-at t) step-from.Post
 step-from-first-step-requires t c κs = let a = c .before .before .before .before .before .before .before .before .before in (omega (arith, a .pre .0), (a .pre .1 .0, c .children .ensures (a .args .file .now) .good))
-
-step-from-returns-2 : (t : ℕ) → step-from-lts.Need-returns-2 (one t) (step-from-at t) step-from.Post
-step-from-returns-2 t c = step-own _ _ _ _ (c .before .before .before .before .if1 .left) _ (sym (ap real (c .before .x .given .1)) ∙ c .before .before .before .own-step .ensures)
 
 step-from-returns-3 : (t : ℕ) → step-from-lts.Need-returns-3 (one t) (step-from-at t) step-from.Post
 unfolding ascii
@@ -175,13 +175,13 @@ pub +first-step+step-from-spec : {M : Type 1} → statement M
     step-from.Post
     (step-from-returns t)
     (step-from-own-step-requires t)
-    (step-from-enum-known-x t)
     (step-from-enum-told t)
+    (step-from-enum-told-2 t)
+    (step-from-returns-2 t)
     (step-from-add-get t)
     (step-from-slice-aggregate-get t)
     (step-from-get-requires t)
     (step-from-children-requires t)
     (step-from-sub-first-step t)
     (step-from-first-step-requires t)
-    (step-from-returns-2 t)
     (step-from-returns-3 t)
