@@ -62,14 +62,18 @@ fn answer(request: &[u8]) -> Vec<u8> {
     let reader = opened.unwrap_or_else(|_| panic!("open"));
     section(&mut out, |out| access::tell_open(out, &reader));
     section(&mut out, |out| access::tell_map_place(out, &file));
-    section(&mut out, |out| access::tell_channels(out, &file, components));
+    section(&mut out, |out| {
+        access::tell_channels(out, &file, components)
+    });
     for at in planes {
         section(&mut out, |out| access::tell_plane(out, &reader, at));
     }
     for name in names {
         section(&mut out, |out| access::tell_tree(out, &file, &name));
     }
-    section(&mut out, |out| access::tell_register(out, &reader, most_frames));
+    section(&mut out, |out| {
+        access::tell_register(out, &reader, most_frames)
+    });
     out.0
 }
 
@@ -93,7 +97,9 @@ fn serve() -> std::io::Result<()> {
 
 fn main() {
     std::panic::set_hook(Box::new(|_| {}));
-    let server = std::thread::Builder::new().stack_size(64 << 20).spawn(serve);
+    let server = std::thread::Builder::new()
+        .stack_size(64 << 20)
+        .spawn(serve);
     let served = server.map(|thread| thread.join());
     if !matches!(served, Ok(Ok(Ok(())))) {
         std::process::exit(1);

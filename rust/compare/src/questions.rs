@@ -204,6 +204,15 @@ pub fn asked(reader: &dyn Reader, file: &[u8], plan: &Plan, scratch: &mut Scratc
     asking.answers
 }
 
+/// The bytes up to the last one that is not zero.
+fn used(bytes: &[u8]) -> usize {
+    let set = |part: &[u8]| part.iter().fold(0, |all, byte| all | byte) != 0;
+    let last = bytes.chunks(256).rposition(set);
+    let end = last.map_or(0, |i| (256 * (i + 1)).min(bytes.len()));
+    let zeros = bytes[..end].iter().rev().take_while(|&&byte| byte == 0);
+    end - zeros.count()
+}
+
 struct Asking<'a> {
     reader: &'a dyn Reader,
     file: &'a [u8],
@@ -310,7 +319,7 @@ impl Asking<'_> {
     fn tree(&mut self, name: &[u8]) -> Lent {
         let table = &mut self.scratch.table;
         let number = self.reader.tree(self.file, &self.plan.summary, name, table);
-        let used = table.iter().rposition(|&b| b != 0).map_or(0, |at| at + 1);
+        let used = used(table);
         let bytes = table[..used].to_vec();
         self.fault(number == 0 || used == 0, "tree: the table is not zero");
         Lent { number, bytes }

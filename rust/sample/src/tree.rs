@@ -12,6 +12,9 @@ pub const BYTES: u8 = 9;
 pub const LEVEL: u8 = 11;
 pub const PACKED: u8 = 76;
 
+/// A count that is said and not true has at most so many numbers after the children, unless these are said too.
+const MOST_SKIPPED: u32 = 1000;
+
 /// One record: its type, the units of its name as they are written, and its value.
 #[derive(Clone, Debug)]
 pub struct Record {
@@ -173,7 +176,8 @@ impl Level {
         let length = self.length.unwrap_or((out.len() - record_start) as u64);
         out[length_place..length_place + 8].copy_from_slice(&length.to_le_bytes());
         let mut table: Vec<u8> = places.iter().flat_map(|p| p.to_le_bytes()).collect();
-        let skip = self.skip.unwrap_or(8 * (count as usize).min(100_000));
+        let skipped = self.count.map_or(places.len(), |c| c.min(MOST_SKIPPED) as usize);
+        let skip = self.skip.unwrap_or(8 * skipped);
         table.resize(skip, 0);
         out.extend_from_slice(&table);
     }
