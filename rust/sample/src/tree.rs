@@ -176,7 +176,9 @@ impl Level {
         let length = self.length.unwrap_or((out.len() - record_start) as u64);
         out[length_place..length_place + 8].copy_from_slice(&length.to_le_bytes());
         let mut table: Vec<u8> = places.iter().flat_map(|p| p.to_le_bytes()).collect();
-        let skipped = self.count.map_or(places.len(), |c| c.min(MOST_SKIPPED) as usize);
+        let skipped = self
+            .count
+            .map_or(places.len(), |c| c.min(MOST_SKIPPED) as usize);
         let skip = self.skip.unwrap_or(8 * skipped);
         table.resize(skip, 0);
         out.extend_from_slice(&table);
