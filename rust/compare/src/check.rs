@@ -51,6 +51,10 @@ pub struct Check<'a> {
 impl Check<'_> {
     pub fn run(&mut self) {
         self.findings.unlisted.extend(self.answers.faults.clone());
+        if self.over_limit() {
+            self.findings.listed.push(Listed::MapLimit);
+            return;
+        }
         self.open();
         self.planes();
         self.trees();
@@ -60,6 +64,12 @@ impl Check<'_> {
         for numbers in &self.answers.wild {
             self.same("refused summary", numbers, &[SUMMARY; 4]);
         }
+    }
+
+    /// Whether the map has too many entries here and, counted by their names, not too many there.
+    fn over_limit(&self) -> bool {
+        let here = matches!(self.answers.open, Some(Err(MAP)));
+        here && self.file.len() > LIMIT_BYTES && self.original.open.is_ok()
     }
 
     fn differs(&mut self, what: String) {
@@ -81,10 +91,7 @@ impl Check<'_> {
         };
         let theirs = number(message);
         let out_of_bounds = ours == PACKED && theirs == Some(second::refusal::CUT);
-        let limit = ours == MAP && message == "accepted" && self.file.len() > LIMIT_BYTES;
-        if limit {
-            self.findings.listed.push(Listed::MapLimit);
-        } else if out_of_bounds || (ours == PACKED && theirs == Some(PACKED)) {
+        if out_of_bounds || (ours == PACKED && theirs == Some(PACKED)) {
             self.findings.listed.push(Listed::PackedRecords);
         } else if theirs != Some(ours) {
             self.differs(format!("{what}: {ours}, the original: {message}"));

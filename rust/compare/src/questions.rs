@@ -72,6 +72,19 @@ impl Plan {
         plan
     }
 
+    /// All planes, where they are few.
+    pub fn every_plane(&mut self) {
+        let [scenes, times, components, depths] = counts(&self.summary);
+        if !self.opened || self.summary.frames() * components as u128 > MOST_FRAMES as u128 {
+            return;
+        }
+        for n in 0..scenes * times * components * depths {
+            let (z, n) = (n % depths, n / depths);
+            let (c, n) = (n % components, n / components);
+            self.planes.push([n / times, n % times, c, z]);
+        }
+    }
+
     /// Where the map lies in a file that does not open, as the original says.
     pub fn map_at(&mut self, map: Range) {
         if !self.opened {
@@ -89,14 +102,19 @@ fn sufficient(file: &[u8]) -> Result<usize, u32> {
     Ok(most.unwrap_or(0) * ENTRY_BYTES)
 }
 
-/// The first plane, two at random, and one out of range.
-fn planes(rng: &mut Rng, s: &Summary) -> Vec<[u64; 4]> {
-    let counts = [
+/// How many scenes, times, components and depths there are.
+fn counts(s: &Summary) -> [u64; 4] {
+    [
         s.count(Axis::P),
         s.count(Axis::T),
         s.components,
         s.count(Axis::Z),
-    ];
+    ]
+}
+
+/// The first plane, two at random, and one out of range.
+fn planes(rng: &mut Rng, s: &Summary) -> Vec<[u64; 4]> {
+    let counts = counts(s);
     let mut planes = vec![[0; 4], counts.map(|n| rng.below(n)), counts.map(|n| n - 1)];
     let mut outside = counts.map(|n| rng.below(n));
     let axis = rng.place(4);
@@ -178,6 +196,56 @@ pub struct Answers {
     pub wild: Vec<[u32; 4]>,
     /// Lent bytes that were touched or not cleared against the rules.
     pub faults: Vec<String>,
+}
+
+/// A summary's floats by their bits, since +0 and −0 are different answers.
+fn exact(open: &Option<Result<Summary, u32>>) -> [u32; 3] {
+    let floats = |s: &Summary| [s.x, s.y, s.z].map(f32::to_bits);
+    open.as_ref()
+        .and_then(|o| o.as_ref().ok())
+        .map_or([0; 3], floats)
+}
+
+impl Answers {
+    /// The calls in which other answers differ from these.
+    pub fn differing(&self, other: &Answers) -> Vec<String> {
+        let opens = self.open == other.open && exact(&self.open) == exact(&other.open);
+        let small = exact(&self.small_open) == exact(&other.small_open);
+        let same = [
+            ("open", opens),
+            (
+                "open, small table",
+                small && self.small_open == other.small_open,
+            ),
+            ("planes", self.planes == other.planes),
+            (
+                "planes, short buffer",
+                self.short_planes == other.short_planes,
+            ),
+            ("border", self.borders == other.borders),
+            ("trees", self.trees == other.trees),
+            ("trees, small table", self.small_trees == other.small_trees),
+            ("channels", self.channels == other.channels),
+            (
+                "channels, short row",
+                self.short_channels == other.short_channels,
+            ),
+            (
+                "channels, small table",
+                self.small_channels == other.small_channels,
+            ),
+            ("register", self.register == other.register),
+            (
+                "register, short buffer",
+                self.short_register == other.short_register,
+            ),
+            ("refused summaries", self.wild == other.wild),
+            ("lent bytes", self.faults == other.faults),
+        ];
+        let differing = same.into_iter().filter(|(_, same)| !same);
+        let told = |(call, _)| format!("{call}: other answers than the first reader's");
+        differing.map(told).collect()
+    }
 }
 
 /// Lent bytes that are used again for every file.

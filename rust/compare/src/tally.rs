@@ -35,11 +35,12 @@ impl Tally {
         }
     }
 
-    pub fn listed(&mut self, mut found: Vec<Listed>) {
+    /// Counts each listed difference once for a file.
+    pub fn listed(&mut self, found: &mut Vec<Listed>) {
         found.sort();
         found.dedup();
         for one in found {
-            *self.listed.entry(one).or_default() += 1;
+            *self.listed.entry(*one).or_default() += 1;
         }
     }
 
