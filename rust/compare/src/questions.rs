@@ -7,7 +7,7 @@ use sample::Rng;
 use second::chunks::{self, part};
 use second::map::{self, Map};
 use second::trees::ENTRY_BYTES;
-use second::{Axis, Channel, Range, Summary};
+use second::{Axis, Channel, Loop, Range, Summary};
 
 /// What lent bytes hold before a call.
 const FILL: u8 = 0xA5;
@@ -37,6 +37,8 @@ pub struct Plan {
     pub room: usize,
     /// Summaries that are refused.
     pub wild: Vec<Summary>,
+    /// Summaries that no opening of this file gave; some are refused.
+    pub strange: Vec<Summary>,
 }
 
 /// A summary that can be used, for a file that does not open.
@@ -64,6 +66,7 @@ impl Plan {
             table: sufficient(file).unwrap_or(0) + SPARE_BYTES,
             room: rng.place(30),
             wild: Vec::new(),
+            strange: vec![strange(rng, file, summary)],
         };
         if plan.opened {
             plan.planes = planes(rng, &summary);
@@ -165,6 +168,28 @@ fn wild(rng: &mut Rng, mut s: Summary) -> Summary {
     s
 }
 
+/// A summary with some things in it that the file does not say.
+fn strange(rng: &mut Rng, file: &[u8], mut s: Summary) -> Summary {
+    for _ in 0..rng.between(1, 3) {
+        match rng.below(8) {
+            0 => s.map.start = s.map.start.saturating_add(rng.between(0, 40)),
+            1 => s.map.len = s.map.len.saturating_sub(rng.between(0, 60)),
+            2 => s.map.start = rng.below(file.len() as u64 + 2),
+            3 => s.map.len = rng.below(file.len() as u64 + 2),
+            4 => s.width = rng.between(0, 4),
+            5 => s.height = rng.between(0, 4),
+            6 => s.bits = rng.pick(&[8, 16, 32]),
+            _ => {
+                let axis = rng.pick(&[Axis::T, Axis::Z, Axis::P]);
+                let count = rng.between(0, 3);
+                s.depth = rng.between(0, 3);
+                s.loops[rng.place(3)] = Loop { axis, count };
+            }
+        }
+    }
+    s
+}
+
 /// A call's number and what the lent bytes hold after it.
 #[derive(Clone, Debug, PartialEq)]
 pub struct Lent {
@@ -176,6 +201,15 @@ pub struct Lent {
 pub struct Row {
     pub number: u32,
     pub records: Vec<Channel>,
+}
+
+/// What the calls that take a summary make of a strange one.
+#[derive(Clone, Debug, PartialEq)]
+pub struct Strange {
+    pub plane: Lent,
+    pub tree: Lent,
+    pub channels: Row,
+    pub register: Lent,
 }
 
 /// What a reader answers. `short` are the same calls with one byte, record or entry too few, or with few entries.
@@ -194,6 +228,7 @@ pub struct Answers {
     pub small_trees: Vec<Lent>,
     pub small_channels: Option<u32>,
     pub wild: Vec<[u32; 4]>,
+    pub strange: Vec<Strange>,
     /// Lent bytes that were touched or not cleared against the rules.
     pub faults: Vec<String>,
 }
@@ -240,6 +275,7 @@ impl Answers {
                 self.short_register == other.short_register,
             ),
             ("refused summaries", self.wild == other.wild),
+            ("strange summaries", self.strange == other.strange),
             ("lent bytes", self.faults == other.faults),
         ];
         let differing = same.into_iter().filter(|(_, same)| !same);
@@ -269,6 +305,7 @@ pub fn asked(reader: &dyn Reader, file: &[u8], plan: &Plan, scratch: &mut Scratc
     asking.channels();
     asking.register();
     asking.wild();
+    asking.strange();
     asking.answers
 }
 
@@ -443,6 +480,55 @@ impl Asking<'_> {
             .register(self.file, &self.plan.summary, &mut short);
         self.untouched(number, &short, 0, "register, short buffer");
         self.answers.short_register = Some(number);
+    }
+
+    /// The same calls with summaries of which nothing is expected but that a refusal leaves lent bytes as it has to.
+    fn strange(&mut self) {
+        for summary in &self.plan.strange {
+            let mut samples = vec![FILL; 200];
+            let number = self.reader.plane(self.file, summary, [0; 4], &mut samples);
+            self.untouched(number, &samples, samples.len(), "plane, strange summary");
+            let plane = Lent {
+                number,
+                bytes: samples,
+            };
+            let mut records = vec![FILL; 24 * 30];
+            let number = self.reader.register(self.file, summary, &mut records);
+            self.untouched(number, &records, records.len(), "register, strange summary");
+            let register = Lent {
+                number,
+                bytes: records,
+            };
+            let (tree, channels) = self.strange_tables(summary);
+            self.answers.strange.push(Strange {
+                plane,
+                tree,
+                channels,
+                register,
+            });
+        }
+    }
+
+    fn strange_tables(&mut self, summary: &Summary) -> (Lent, Row) {
+        self.table(self.plan.table);
+        let table = &mut self.scratch.table;
+        let name = TREES[1].as_bytes();
+        let number = self.reader.tree(self.file, summary, name, table);
+        let bytes = table[..used(table)].to_vec();
+        let right = number == 0 || bytes.is_empty();
+        self.fault(right, "tree, strange summary: the table is not zero");
+        let mut records = vec![Channel::default(); 4];
+        self.table(self.plan.table);
+        let table = &mut self.scratch.table;
+        let row = self
+            .reader
+            .channels(self.file, summary, table, &mut records);
+        self.table_is_zero("channels, strange summary");
+        let channels = Row {
+            number: row,
+            records,
+        };
+        (Lent { number, bytes }, channels)
     }
 
     /// The four calls that take a summary, with summaries that are refused.

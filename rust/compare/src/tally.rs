@@ -2,7 +2,7 @@
 
 use crate::check::Listed;
 use crate::numbers::WORDS;
-use crate::questions::Answers;
+use crate::questions::{Answers, Strange};
 use std::collections::BTreeMap;
 
 const CALLS: [&str; 6] = ["open", "plane", "border", "tree", "channels", "register"];
@@ -91,12 +91,30 @@ fn numbers(a: &Answers) -> [Vec<u32>; 6] {
     let register = [a.register.as_ref().map(|l| l.number), a.short_register];
     let wild = |call: usize| a.wild.iter().map(move |numbers| numbers[call]);
     let short = a.short_planes.iter().copied();
+    let strange = |number: fn(&Strange) -> u32| a.strange.iter().map(number);
     [
         open.map(|o| o.err().unwrap_or(0)).collect(),
-        planes.chain(short).chain(wild(0)).collect(),
+        planes
+            .chain(short)
+            .chain(wild(0))
+            .chain(strange(|s| s.plane.number))
+            .collect(),
         a.borders.iter().map(|l| l.number).collect(),
-        trees.chain(wild(1)).collect(),
-        channels.into_iter().flatten().chain(wild(2)).collect(),
-        register.into_iter().flatten().chain(wild(3)).collect(),
+        trees
+            .chain(wild(1))
+            .chain(strange(|s| s.tree.number))
+            .collect(),
+        channels
+            .into_iter()
+            .flatten()
+            .chain(wild(2))
+            .chain(strange(|s| s.channels.number))
+            .collect(),
+        register
+            .into_iter()
+            .flatten()
+            .chain(wild(3))
+            .chain(strange(|s| s.register.number))
+            .collect(),
     ]
 }

@@ -7,10 +7,13 @@ use crate::rng::Rng;
 use crate::tree::{level, u32, Record};
 
 /// Sizes around the limits that document 01 sets: a plane's ceiling and the products past 2^64 − 1.
-const LARGE: [(u64, u64, u64, u64, u64); 14] = [
+const LARGE: [(u64, u64, u64, u64, u64); 17] = [
     (65_536, 65_536, 65_536, 1, 8),
     (65_537, 65_537, 65_536, 1, 8),
     (65_536, 65_537, 65_537, 1, 8),
+    (641, 641, 6_700_417, 1, 8),
+    ((1 << 32) + 1, u64::MAX, (1 << 32) - 1, 1, 8),
+    (u64::MAX, u64::MAX, 1, 1, 8),
     (1 << 31, 1 << 32, 1, 1, 16),
     (1 << 32, 1 << 33, 1, 1, 16),
     (1 << 30, 1 << 32, 1, 1, 32),
@@ -25,7 +28,7 @@ const LARGE: [(u64, u64, u64, u64, u64); 14] = [
 ];
 
 fn sizes(rng: &mut Rng) -> Sizes {
-    if rng.one_in(16) {
+    if rng.one_in(12) {
         let (width, stride, height, components, bits) = rng.pick(&LARGE);
         return Sizes {
             width,

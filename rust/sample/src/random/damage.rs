@@ -191,14 +191,37 @@ fn lengthened(rng: &mut Rng, file: Nd2) -> Vec<u8> {
     let listed = file.entries.get(entry).map(|e| e.offset as usize);
     let place = listed.filter(|&p| p + 16 <= map_place).unwrap_or(map_place);
     let mut bytes = file.finish();
+    let rest = (bytes.len() - place - 16) as u64;
     if rng.one_in(3) {
-        let len = rng.pick(&[0, 1, 31, 33, 40, 5000, u32::MAX]);
+        let len = rng.pick(&[
+            0,
+            1,
+            31,
+            33,
+            40,
+            5000,
+            u32::MAX,
+            rest as u32,
+            rest as u32 + 1,
+        ]);
         bytes[place + 4..place + 8].copy_from_slice(&len.to_le_bytes());
-    } else {
+    }
+    if rng.one_in(3) {
         let len = rng.pick(&[0, 1, 2, 7, 8, 9, 50, 5000, u64::MAX, u64::MAX - 60, 1 << 63]);
         bytes[place + 8..place + 16].copy_from_slice(&len.to_le_bytes());
+    } else {
+        to_the_end(rng, &mut bytes, place);
     }
     bytes
+}
+
+/// Lets a chunk's data reach to the end of the file, or one byte less or more.
+fn to_the_end(rng: &mut Rng, bytes: &mut [u8], place: usize) {
+    let name: [u8; 4] = bytes[place + 4..place + 8].try_into().unwrap_or_default();
+    let rest = bytes.len() as u64 - place as u64 - 16;
+    let data = rest.saturating_sub(u32::from_le_bytes(name) as u64);
+    let len = (data + rng.between(0, 2)).saturating_sub(1);
+    bytes[place + 8..place + 16].copy_from_slice(&len.to_le_bytes());
 }
 
 /// The file cut at its end, or bytes put after it.

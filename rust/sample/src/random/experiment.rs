@@ -6,10 +6,10 @@ use crate::parts::{CUSTOM, FOCUS, OTHER_TIME, POINTS, SPECTRAL, TIME};
 use crate::rng::Rng;
 use crate::tree::{f64, flag, level, list, text, u32, unnamed, Record};
 
-const USUAL: [u32; 8] = [
-    TIME, POINTS, FOCUS, SPECTRAL, OTHER_TIME, POINTS, FOCUS, TIME,
+const USUAL: [u32; 9] = [
+    TIME, POINTS, FOCUS, SPECTRAL, OTHER_TIME, POINTS, FOCUS, TIME, SPECTRAL,
 ];
-const UNUSUAL: [u32; 10] = [0, 3, 5, CUSTOM, CUSTOM, 9, 10, 11, 12, 200];
+const UNUSUAL: [u32; 12] = [0, 3, 5, CUSTOM, CUSTOM, CUSTOM, CUSTOM, 9, 10, 11, 12, 200];
 
 pub fn random(rng: &mut Rng, care: Care) -> Record {
     if rng.one_in(10) {
@@ -19,7 +19,8 @@ pub fn random(rng: &mut Rng, care: Care) -> Record {
         return chain(rng);
     }
     let mut left = 12;
-    one(rng, "SLxExperiment", 0, &mut left)
+    let kind = any_kind(rng);
+    one(rng, "SLxExperiment", kind, 0, &mut left)
 }
 
 /// One loop below the other, each axis at most once, as a bench writes it.
@@ -61,21 +62,24 @@ fn count(rng: &mut Rng, kind: u32) -> u64 {
     rng.between(1, 4)
 }
 
-/// An experiment level with anything below it, while there are levels left.
-fn one(rng: &mut Rng, name: &str, depth: u32, left: &mut u32) -> Record {
-    *left = left.saturating_sub(1);
-    let kind = if rng.one_in(12) {
+fn any_kind(rng: &mut Rng) -> u32 {
+    if rng.one_in(12) {
         rng.pick(&UNUSUAL)
     } else {
         rng.pick(&USUAL)
-    };
+    }
+}
+
+/// An experiment level with anything below it, while there are levels left.
+fn one(rng: &mut Rng, name: &str, kind: u32, depth: u32, left: &mut u32) -> Record {
+    *left = left.saturating_sub(1);
     let count = count(rng, kind);
-    let mut records = vec![field(rng, "eType", kind as u64, 40)];
+    let mut records = vec![field(rng, "eType", kind as u64, 16)];
     if rng.one_in(25) {
         records.clear();
     }
     records.extend(around(rng, kind, count, 30));
-    let children = rng.pick(&[0, 1, 1, 1, 2, 3]).min(*left as u64);
+    let children = rng.pick(&[0, 1, 1, 2, 2, 3]).min(*left as u64);
     if children > 0 && depth < 8 {
         records.push(next(rng, children, depth, left));
     }
@@ -86,12 +90,16 @@ fn one(rng: &mut Rng, name: &str, depth: u32, left: &mut u32) -> Record {
     level(name, records)
 }
 
-/// ppNextLevelEx: a level or a list of levels, with other things between them.
+/// ppNextLevelEx: a level or a list of levels, often of one type, with other things between them.
 fn next(rng: &mut Rng, children: u64, depth: u32, left: &mut u32) -> Record {
     let listed = rng.one_in(2);
     let mut records = Vec::new();
+    let mut kind = any_kind(rng);
     for i in 0..children {
-        let child = one(rng, &format!("i{i:010}"), depth + 1, left);
+        let child = one(rng, &format!("i{i:010}"), kind, depth + 1, left);
+        if rng.one_in(2) {
+            kind = any_kind(rng);
+        }
         records.push(if listed { unnamed(child) } else { child });
         if rng.one_in(10) {
             records.push(u32(if listed { "" } else { "uiNumber" }, i as u32));

@@ -32,6 +32,20 @@ const WHOLE: [u64; 24] = [
     u64::MAX,
 ];
 
+/// Whole numbers that lie at or beside a half of the last place of f64 or f32.
+const PRECISE: [u64; 10] = [
+    (1 << 24) + 1,
+    (1 << 25) + 2,
+    (1 << 53) + 1,
+    (1 << 54) + 6,
+    (1 << 60) + (1 << 36) + 1,
+    (1 << 60) + (1 << 36) + (1 << 8),
+    (1 << 63) + 1024,
+    (1 << 63) + (1 << 39) + 1,
+    u64::MAX - 1023,
+    u64::MAX - 1024,
+];
+
 const DOUBLES: [f64; 38] = [
     0.0,
     -0.0,
@@ -94,6 +108,7 @@ pub fn double(rng: &mut Rng, name: &str) -> Record {
         0 => double_bits(name, rng.word()),
         1 => double_bits(name, f64::NAN.to_bits() | 1 << 63),
         2 => whole_odd(rng, name),
+        3 => u64(name, rng.pick(&PRECISE)),
         _ => {
             let value = rng.pick(&DOUBLES);
             f64(name, value)

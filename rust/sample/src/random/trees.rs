@@ -2,7 +2,7 @@
 
 use super::numbers::odd;
 use crate::rng::Rng;
-use crate::tree::{bytes, flag, level, list, packed, raw, text_units, u32, unnamed, Record};
+use crate::tree::{bytes, flag, level, list, packed, raw, text_units, u32, unnamed, Record, LEVEL};
 
 /// Names that a tree of records repeats now and then.
 pub const NAMES: [&str; 12] = [
@@ -33,9 +33,10 @@ pub fn random(rng: &mut Rng) -> Record {
 
 /// Levels below each other, around the depth of 64; innermost a number, an empty level or nothing.
 pub fn deep(rng: &mut Rng) -> Record {
-    let mut inner = match rng.below(3) {
+    let mut inner = match rng.below(5) {
         0 => u32("x", 1),
         1 => level("", Vec::new()),
+        2 => cut_level(rng, "x"),
         _ => level("x", vec![u32("", 1)]),
     };
     for _ in 0..rng.between(61, 66) {
@@ -77,7 +78,7 @@ fn any(rng: &mut Rng, depth: u32, left: &mut u64) -> Record {
             bytes(name, &rng.bytes(len))
         }
         6 => flag(name, rng.word() as u8),
-        7 if rng.one_in(12) => rare(rng, name),
+        7 if rng.one_in(8) => rare(rng, name),
         8 => list(name, vec![u32("", 1), odd(rng, "")]),
         _ => odd(rng, name),
     };
@@ -94,9 +95,19 @@ fn text(rng: &mut Rng, name: &str) -> Record {
     text_units(name, &units, ended)
 }
 
+/// A level that is cut in its count, its length or its children.
+fn cut_level(rng: &mut Rng, name: &str) -> Record {
+    let count = rng.pick(&[0, 1, 10_000_000, 10_000_001, u32::MAX]);
+    let length = rng.pick(&[0, 13, 40, 5000, u64::MAX]);
+    let mut value = count.to_le_bytes().to_vec();
+    value.extend_from_slice(&length.to_le_bytes());
+    value.truncate(rng.pick(&[3, 4, 11, 12, 12]));
+    raw(LEVEL, name, &value)
+}
+
 /// Types that there are not, and packed records with and without the ten bytes after them.
 fn rare(rng: &mut Rng, name: &str) -> Record {
-    match rng.below(5) {
+    match rng.below(6) {
         0 => raw(rng.pick(&[0, 10]), name, &[0; 4]),
         1 => raw(rng.pick(&[12, 13, 75, 77, 255]), name, &[0; 4]),
         2 => {
@@ -104,6 +115,7 @@ fn rare(rng: &mut Rng, name: &str) -> Record {
             packed(&rng.bytes(len))
         }
         3 => deep(rng),
+        4 => cut_level(rng, name),
         _ => raw(9, name, &(rng.pick(&[1, 100, u64::MAX])).to_le_bytes()),
     }
 }
