@@ -3,6 +3,7 @@
 use crate::numbers::number;
 use crate::original::{Answer, ChannelTold, Opened, Told};
 use crate::questions::{Answers, Lent, Plan, MOST_FRAMES, TREES};
+use crate::table;
 use crate::wire::Out;
 use second::names::{scalars, units_at};
 use second::refusal::{BUFFER, CHANNEL_ROW, MAP, PACKED, SUMMARY, TABLE};
@@ -174,8 +175,8 @@ impl Check<'_> {
         for (i, lent) in answers.trees.iter().enumerate() {
             let what = format!("tree {}", TREES[i]);
             let told = &self.original.trees[i];
-            if self.both(&what, lent.number, told) && told.as_ref() != Ok(&self.dumped(lent)) {
-                self.differs(format!("{what}: other values"));
+            if self.both(&what, lent.number, told) {
+                self.table(&what, lent, told);
             }
             let small = &answers.small_trees[i];
             self.small_tree(&what, lent, small);
@@ -192,13 +193,23 @@ impl Check<'_> {
         }
     }
 
-    /// The table's entries as the original tells a tree.
-    fn dumped(&self, lent: &Lent) -> Vec<u8> {
+    /// The table's entries: right by the file's bytes, and of the same values as the original's tree.
+    fn table(&mut self, what: &str, lent: &Lent, told: &Told<Vec<u8>>) {
         let mut table = lent.bytes.clone();
         table.resize(lent.bytes.len().div_ceil(ENTRY_BYTES) * ENTRY_BYTES, 0);
+        let entries = written(&table);
+        if entries.len() * ENTRY_BYTES != table.len() {
+            self.differs(format!("{what}: an empty entry among the others"));
+        }
+        if let Some(fault) = table::fault(self.file, &entries) {
+            self.differs(format!("{what}: {fault}"));
+            return;
+        }
         let mut out = Out::default();
-        tell_level(&mut out, self.file, &root(self.file, &written(&table)));
-        out.0
+        tell_level(&mut out, self.file, &root(self.file, &entries));
+        if told.as_ref() != Ok(&out.0) {
+            self.differs(format!("{what}: other values"));
+        }
     }
 
     fn channels(&mut self) {

@@ -13,6 +13,7 @@ mod original;
 mod questions;
 mod reader;
 mod run;
+mod table;
 mod tally;
 #[path = "../driver/wire.rs"]
 mod wire;
