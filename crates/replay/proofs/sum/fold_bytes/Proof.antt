@@ -1,0 +1,52 @@
+-- `replay::sum::fold_bytes` stays within its bytes, and every sum on the way is below 2^32.
+use Prim.Native.Nat.{_≤_, _<_, _^_, _-_}
+use native.Mathlib.Omega.{arith}
+use lib.ListN.{length}
+use borrow.Author.Needs.{needs}
+use Rattle.replay.proofs.sum.fold_bytes.Statement.{statement}
+use Rattle.replay.proofs.sum.fold_bytes.Tie as tie
+
+abbrev Inv-loop : tie.InvT-loop
+Inv-loop sum s all₀ i₀ all i = (all < 2 ^ 32) × (i ≤ length s)
+
+abbrev μ-loop : tie.MeasureT-loop
+μ-loop sum s all₀ i₀ all i = length s - i
+
+loop-holds : tie.Need-loop-holds Inv-loop μ-loop
+loop-holds c = search needs
+
+shared-slice-read-wide : tie.Need-shared-slice-read-wide Inv-loop μ-loop
+shared-slice-read-wide c = search needs
+
+wide-requires : tie.Need-wide-requires Inv-loop μ-loop
+wide-requires c κs = search needs
+
+fold-requires : tie.Need-fold-requires Inv-loop μ-loop
+fold-requires c κs = search needs
+
+add-i : tie.Need-add-i Inv-loop μ-loop
+add-i c = search needs
+
+loop-less : tie.Need-loop-less Inv-loop μ-loop
+loop-less c = search needs
+
+loop-again : tie.Need-loop-again Inv-loop μ-loop
+loop-again c = search needs
+
+returns : tie.Need-returns Inv-loop μ-loop
+returns c = search needs
+
+pub fold-bytes-spec : {M : Type 1} → statement M
+fold-bytes-spec =
+    tie.close
+    (tie.spec
+    Inv-loop
+    μ-loop
+    loop-holds
+    shared-slice-read-wide
+    wide-requires
+    fold-requires
+    add-i
+    loop-less
+    loop-again
+    returns)
