@@ -1,8 +1,9 @@
 //! One reader's answers held against the original's, and against document 01 where the original has no counterpart.
 
+use crate::answers::{Answers, Lent};
 use crate::numbers::number;
 use crate::original::{Answer, ChannelTold, Opened, Told};
-use crate::questions::{Answers, Lent, Plan, MOST_FRAMES, TREES};
+use crate::plan::{Plan, MOST_FRAMES, TREES};
 use crate::table;
 use crate::wire::Out;
 use second::names::{scalars, units_at};
@@ -139,7 +140,7 @@ impl Check<'_> {
             if self.both(&what, lent.number, told) {
                 let samples = told.as_deref().unwrap_or(&[]);
                 let begins = lent.bytes.starts_with(samples);
-                let whole = lent.bytes.len() == samples.len() + 7;
+                let whole = lent.bytes.len() == samples.len() + self.plan.spare;
                 if !begins || !whole {
                     self.differs(format!("{what}: other samples ({} bytes)", file.len()));
                 }
@@ -250,7 +251,10 @@ impl Check<'_> {
             told.sort();
             let bytes: Vec<u8> = told.iter().flat_map(record).collect();
             let dense = told.iter().zip(0..).all(|(record, n)| record[0] == n);
-            if !dense || lent.bytes.len() != bytes.len() + 7 || !lent.bytes.starts_with(&bytes) {
+            if !dense
+                || lent.bytes.len() != bytes.len() + self.plan.spare
+                || !lent.bytes.starts_with(&bytes)
+            {
                 self.differs("register: other records".to_string());
             }
         }

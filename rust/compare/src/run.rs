@@ -1,8 +1,9 @@
 //! One file after the other: all readers and the original are asked, the answers compared and counted.
 
+use crate::answers::{asked, Answers, Scratch};
 use crate::check::{Check, Findings, Listed};
 use crate::original::{Answer, Original, Question};
-use crate::questions::{asked, Answers, Plan, Scratch, MOST_FRAMES};
+use crate::plan::{Plan, MOST_FRAMES};
 use crate::reader::{readers, Reader};
 use crate::tally::Tally;
 use sample::Rng;
