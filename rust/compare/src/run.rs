@@ -172,7 +172,10 @@ fn caught<T>(ask: impl FnOnce() -> T) -> Option<T> {
 
 fn checked(file: &[u8], plan: &Plan, answers: &Answers, original: Option<&Answer>) -> Findings {
     let Some(original) = original else {
-        return Findings::default();
+        return Findings {
+            unlisted: answers.faults.clone(),
+            ..Findings::default()
+        };
     };
     let mut check = Check {
         file,
