@@ -1,8 +1,9 @@
 //! One reader's answers held against the original's, and against document 01 where the original has no counterpart.
 
+use crate::answers::{Answers, Lent};
 use crate::numbers::number;
 use crate::original::{Answer, ChannelTold, Opened, Told};
-use crate::questions::{Answers, Lent, Plan, MOST_FRAMES, TREES};
+use crate::plan::{Plan, MOST_FRAMES, TREES};
 use crate::table;
 use crate::wire::Out;
 use second::names::{scalars, units_at};
@@ -33,6 +34,9 @@ impl Listed {
 
 /// A map of 2,000,001 entries has at least 17 bytes for each.
 const LIMIT_BYTES: usize = 17 * 2_000_001;
+
+/// The original passes over ten bytes after a packed record's first two; this is its message where there are fewer.
+const NO_TEN_BYTES: &str = "ND2 read out of bounds: need 10 bytes";
 
 /// What came out of one file: differences that are listed, and those that are not.
 #[derive(Default)]
@@ -91,8 +95,8 @@ impl Check<'_> {
             Err(message) => message,
         };
         let theirs = number(message);
-        let out_of_bounds = ours == PACKED && theirs == Some(second::refusal::CUT);
-        if out_of_bounds || (ours == PACKED && theirs == Some(PACKED)) {
+        let packed = theirs == Some(PACKED) || message.starts_with(NO_TEN_BYTES);
+        if ours == PACKED && packed {
             self.findings.listed.push(Listed::PackedRecords);
         } else if theirs != Some(ours) {
             self.differs(format!("{what}: {ours}, the original: {message}"));
@@ -120,15 +124,16 @@ impl Check<'_> {
         if let Ok(map) = &self.original.map {
             self.same("map", &s.map, map);
         }
-        if s.calibration == 2 && o.size.is_none() {
+        if self.answers.trees[2].number == PACKED && o.size.is_none() {
             self.findings.listed.push(Listed::PackedRecords);
-            self.same("packed calibration", &zeros(s), &[0; 4]);
+            self.same("packed calibration", &s.calibration, &2);
+            self.same("packed calibration", &floats(s), &[0; 4]);
             return;
         }
         self.same("calibration", &s.calibration, &(o.size.is_some() as u64));
         let (x, y, z) = o.size.unwrap_or((0, 0, None));
         let expected = [x as u64, y as u64, class(o), z.unwrap_or(0) as u64];
-        self.same("x, y, class, z", &zeros(s), &expected);
+        self.same("x, y, class, z", &floats(s), &expected);
     }
 
     fn planes(&mut self) {
@@ -139,7 +144,7 @@ impl Check<'_> {
             if self.both(&what, lent.number, told) {
                 let samples = told.as_deref().unwrap_or(&[]);
                 let begins = lent.bytes.starts_with(samples);
-                let whole = lent.bytes.len() == samples.len() + 7;
+                let whole = lent.bytes.len() == samples.len() + self.plan.spare;
                 if !begins || !whole {
                     self.differs(format!("{what}: other samples ({} bytes)", file.len()));
                 }
@@ -250,7 +255,10 @@ impl Check<'_> {
             told.sort();
             let bytes: Vec<u8> = told.iter().flat_map(record).collect();
             let dense = told.iter().zip(0..).all(|(record, n)| record[0] == n);
-            if !dense || lent.bytes.len() != bytes.len() + 7 || !lent.bytes.starts_with(&bytes) {
+            if !dense
+                || lent.bytes.len() != bytes.len() + self.plan.spare
+                || !lent.bytes.starts_with(&bytes)
+            {
                 self.differs("register: other records".to_string());
             }
         }
@@ -275,11 +283,11 @@ impl Check<'_> {
 
 /// A summary that can be compared where it holds floats.
 fn bits(open: Result<Summary, u32>) -> Result<String, u32> {
-    open.map(|s| format!("{s:?} {:?}", zeros(&s)))
+    open.map(|s| format!("{s:?} {:?}", floats(&s)))
 }
 
 /// x, y, class and z by their bits.
-fn zeros(s: &Summary) -> [u64; 4] {
+fn floats(s: &Summary) -> [u64; 4] {
     [
         s.x.to_bits() as u64,
         s.y.to_bits() as u64,

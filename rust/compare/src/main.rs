@@ -2,15 +2,17 @@
 //!
 //!     compare ORIGINAL_FOLDER [--files N] [--seed S] [--corners]
 //!
-//! ORIGINAL_FOLDER has the original's nd2_reader.rs, calibration.rs, types.rs and guard.rs. File i of a run is the one of
-//! seed S + i; with --corners, files at the limits come before them, which take time and memory. Differences that
+//! ORIGINAL_FOLDER has the original's nd2_reader.rs, calibration.rs, types.rs and guard.rs. File i of a run is the one
+//! of seed S + i; with --corners, files at the limits come before them, which take time and memory. Differences that
 //! docs/DIFFERENCES.md lists are counted; any other is printed with its seed, its file is saved, and the exit status
 //! is 1.
 
+mod answers;
 mod check;
 mod numbers;
 mod original;
-mod questions;
+mod plan;
+
 mod reader;
 mod run;
 mod table;

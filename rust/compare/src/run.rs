@@ -1,13 +1,15 @@
 //! One file after the other: all readers and the original are asked, the answers compared and counted.
 
+use crate::answers::{asked, Answers, Scratch};
 use crate::check::{Check, Findings, Listed};
 use crate::original::{Answer, Original, Question};
-use crate::questions::{asked, Answers, Plan, Scratch, MOST_FRAMES};
+use crate::plan::{Plan, MOST_FRAMES};
 use crate::reader::{readers, Reader};
 use crate::tally::Tally;
 use sample::Rng;
 use second::{Axis, Summary};
 use std::io;
+use std::panic::{catch_unwind, AssertUnwindSafe};
 
 /// The original copies every channel into every scene: beyond this many copies it is not asked ("Memory").
 const MOST_COPIES: u64 = 4_000_000;
@@ -72,7 +74,9 @@ impl Run {
 
     /// Compares all readers on one file. The questions are made from the second implementation's opening.
     pub fn case(&mut self, case: &Case) -> io::Result<()> {
-        let open = second::calls::opened(&case.file, usize::MAX);
+        let Some(open) = caught(|| second::calls::opened(&case.file, usize::MAX)) else {
+            return self.report(case, "second", &["it panicked".to_string()]);
+        };
         let mut plan = Plan::new(&mut Rng::new(!case.seed), &case.file, &open);
         if case.every_plane {
             plan.every_plane();
@@ -96,7 +100,11 @@ impl Run {
         for i in 0..self.readers.len() {
             let reader = self.readers[i].as_ref();
             let name = reader.name();
-            let answers = asked(reader, &case.file, plan, &mut self.scratch);
+            let scratch = &mut self.scratch;
+            let Some(answers) = caught(|| asked(reader, &case.file, plan, scratch)) else {
+                self.report(case, name, &["it panicked".to_string()])?;
+                continue;
+            };
             let mut findings = checked(&case.file, plan, &answers, original);
             match &first {
                 Some(first) => findings.unlisted.extend(first.differing(&answers)),
@@ -157,9 +165,17 @@ impl Run {
     }
 }
 
+/// What a reader answers, unless it panics.
+fn caught<T>(ask: impl FnOnce() -> T) -> Option<T> {
+    catch_unwind(AssertUnwindSafe(ask)).ok()
+}
+
 fn checked(file: &[u8], plan: &Plan, answers: &Answers, original: Option<&Answer>) -> Findings {
     let Some(original) = original else {
-        return Findings::default();
+        return Findings {
+            unlisted: answers.faults.clone(),
+            ..Findings::default()
+        };
     };
     let mut check = Check {
         file,

@@ -1,8 +1,8 @@
 //! How many files gave which number in which call.
 
+use crate::answers::{Answers, Strange};
 use crate::check::Listed;
 use crate::numbers::WORDS;
-use crate::questions::{Answers, Strange};
 use std::collections::BTreeMap;
 
 const CALLS: [&str; 6] = ["open", "plane", "border", "tree", "channels", "register"];

@@ -1,5 +1,7 @@
 //! Chunks, the map and the locator.
 
+use std::io::{self, Write};
+
 pub const MARK: u32 = 0x0ABE_CEDA;
 pub const LEGACY: u32 = 0x0C00_0000;
 pub const MAP_END: &[u8; 32] = b"ND2 CHUNK MAP SIGNATURE 0000001!";
@@ -25,6 +27,8 @@ impl MapEntry {
 pub struct Nd2 {
     pub bytes: Vec<u8>,
     pub entries: Vec<MapEntry>,
+    /// How many bytes were handed over before these.
+    handed: u64,
 }
 
 impl Nd2 {
@@ -32,9 +36,22 @@ impl Nd2 {
         Nd2::default()
     }
 
+    /// Where the next chunk begins.
+    fn place(&self) -> u64 {
+        self.handed + self.bytes.len() as u64
+    }
+
+    /// Hands over what is written so far, so that a large file need not be held.
+    pub fn hand_over(&mut self, out: &mut impl Write) -> io::Result<()> {
+        out.write_all(&self.bytes)?;
+        self.handed = self.place();
+        self.bytes.clear();
+        Ok(())
+    }
+
     /// Appends a chunk and its map entry.
     pub fn add(&mut self, name: &str, data: &[u8]) -> &mut Nd2 {
-        let offset = self.bytes.len() as u64;
+        let offset = self.place();
         self.entries.push(MapEntry {
             name: name.as_bytes().to_vec(),
             offset,
@@ -65,7 +82,7 @@ impl Nd2 {
         out
     }
 
-    /// The whole file: with the map's chunk and the locator.
+    /// The whole file, or all that was not handed over: with the map's chunk and the locator.
     pub fn finish(self) -> Vec<u8> {
         let map = self.map();
         self.finish_with(MAP_NAME, &map)
@@ -73,7 +90,7 @@ impl Nd2 {
 
     /// The same with any name and data of the map's chunk.
     pub fn finish_with(mut self, name: &[u8], map: &[u8]) -> Vec<u8> {
-        let offset = self.bytes.len() as u64;
+        let offset = self.place();
         self.chunk(name, map);
         self.bytes.extend_from_slice(MAP_END);
         self.bytes.extend_from_slice(&offset.to_le_bytes());

@@ -1,5 +1,6 @@
 //! Writes ND2 files: trees record by record, chunks and the map (`tree`, `file`), the usual parts of a file (`parts`),
-//! whole rollers (`roller`), random files, good and damaged, from a seed (`random`), and files at the limits (`corner`).
+//! whole rollers (`roller`), random files, good and damaged, from a seed (`random`), and files at the limits
+//! (`corner`).
 
 pub mod corner;
 pub mod file;

@@ -5,6 +5,7 @@
 use crate::file::Nd2;
 use crate::parts::{self, Sizes};
 use crate::tree::Record;
+use std::io::{self, Write};
 
 /// What a roller's file is made of. Samples have 16 bits.
 #[derive(Clone, Copy, Debug)]
@@ -26,22 +27,11 @@ pub struct Roller {
 
 /// The file of a roller with rows that have no padding, points outside.
 pub fn roller(points: u32, steps: u32, lamps: u32, width: u32, height: u32) -> Vec<u8> {
-    let roller = Roller {
-        points,
-        steps,
-        lamps,
-        width,
-        height,
-        padding: 0,
-        focus_outside: false,
-        pixel: 0.325,
-        step: 0.5,
-    };
-    roller.file()
+    Roller::new(points, steps, lamps, width, height).file()
 }
 
-/// The sample of a plane at a place. The first sample of a plane differs from that of every other one of the roller, for
-/// up to 64 points, 64 steps and 16 lamps.
+/// The sample of a plane at a place. The first sample of a plane differs from that of every other one of the roller,
+/// for up to 64 points, 64 steps and 16 lamps.
 pub fn sample(point: u32, step: u32, lamp: u32, x: u32, y: u32) -> u16 {
     let plane = ((point * 64 + step) * 16 + lamp) as u64;
     let mixed = (plane << 40 | (y as u64) << 20 | x as u64).wrapping_mul(0x9E37_79B9_7F4A_7C15);
@@ -52,6 +42,21 @@ pub fn sample(point: u32, step: u32, lamp: u32, x: u32, y: u32) -> u16 {
 }
 
 impl Roller {
+    /// Rows have no padding, and the points are the outer loop.
+    pub fn new(points: u32, steps: u32, lamps: u32, width: u32, height: u32) -> Roller {
+        Roller {
+            points,
+            steps,
+            lamps,
+            width,
+            height,
+            padding: 0,
+            focus_outside: false,
+            pixel: 0.325,
+            step: 0.5,
+        }
+    }
+
     pub fn sizes(&self) -> Sizes {
         let mut sizes = Sizes::packed(self.width as u64, self.height as u64, self.lamps as u64, 16);
         sizes.stride += self.padding as u64;
@@ -102,19 +107,29 @@ impl Roller {
     }
 
     pub fn file(&self) -> Vec<u8> {
+        let mut bytes = Vec::new();
+        // Writing into memory does not fail.
+        let _ = self.write(&mut bytes);
+        bytes
+    }
+
+    /// Writes the file frame by frame.
+    pub fn write(&self, out: &mut impl Write) -> io::Result<()> {
         let mut file = Nd2::new();
-        file.add(parts::ATTRIBUTES, &parts::attributes(self.sizes()).encode());
-        file.add(
-            parts::EXPERIMENT,
-            &parts::experiment(&self.loops()).encode(),
-        );
-        file.add(parts::CALIBRATION, &parts::calibration(self.pixel).encode());
-        file.add(parts::CHANNELS, &self.channels().encode());
+        for (name, tree) in [
+            (parts::ATTRIBUTES, parts::attributes(self.sizes())),
+            (parts::EXPERIMENT, parts::experiment(&self.loops())),
+            (parts::CALIBRATION, parts::calibration(self.pixel)),
+            (parts::CHANNELS, self.channels()),
+        ] {
+            file.add(name, &tree.encode());
+        }
         for n in 0..self.points * self.steps {
             let (point, step) = self.place(n);
             let data = parts::frame(&self.rows(point, step));
             file.add(&parts::frame_name(n as u64), &data);
+            file.hand_over(out)?;
         }
-        file.finish()
+        out.write_all(&file.finish())
     }
 }

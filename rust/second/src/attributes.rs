@@ -35,7 +35,8 @@ impl Attributes {
         matches!(self.bits, 8 | 16 | 32)
     }
 
-    /// "A zero size, over 1,024 components, row bytes below width × components × sample bytes, or that [...] past 2^64 − 1."
+    /// Not "a zero size, over 1,024 components, row bytes below width × components × sample bytes, or that [...] past
+    /// 2^64 − 1".
     pub fn shape_holds(&self) -> bool {
         if self.width == 0 || self.height == 0 || self.components == 0 {
             return false;

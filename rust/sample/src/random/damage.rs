@@ -136,7 +136,7 @@ pub fn entries(rng: &mut Rng, entries: &mut Vec<MapEntry>) {
 
 fn strange_offset(rng: &mut Rng, offset: u64) -> u64 {
     match rng.below(4) {
-        0 => offset + 1,
+        0 => offset.saturating_add(1),
         1 => offset.saturating_sub(1),
         2 => rng.below(3000),
         _ => rng.pick(&[u64::MAX, u64::MAX - 15, u64::MAX - 16, 1 << 63, 1 << 32]),
@@ -189,7 +189,8 @@ fn lengthened(rng: &mut Rng, file: Nd2) -> Vec<u8> {
     let map_place = file.bytes.len();
     let entry = rng.place(file.entries.len() + 1);
     let listed = file.entries.get(entry).map(|e| e.offset as usize);
-    let place = listed.filter(|&p| p + 16 <= map_place).unwrap_or(map_place);
+    let whole = |p: &usize| *p <= map_place.saturating_sub(16);
+    let place = listed.filter(whole).unwrap_or(map_place);
     let mut bytes = file.finish();
     let rest = (bytes.len() - place - 16) as u64;
     if rng.one_in(3) {

@@ -21,14 +21,32 @@ pub const NAMES: [&str; 12] = [
 ];
 
 pub fn random(rng: &mut Rng) -> Record {
-    match rng.below(6) {
-        0 => deep(rng),
-        1 => lists(rng, 4),
+    match rng.below(12) {
+        0 | 1 => deep(rng),
+        2 | 3 => lists(rng, 4),
+        4 => wide(rng),
         _ => {
             let mut left = rng.between(1, 30);
             any(rng, 0, &mut left)
         }
     }
+}
+
+/// A level of many records, of names that come again now and then and share their beginnings.
+fn wide(rng: &mut Rng) -> Record {
+    let count = rng.between(40, 200);
+    let alphabet = rng.between(1, 300);
+    let start = rng.pick(&["", "n", "uiValueOfTheField"]);
+    let record = |i: u64, rng: &mut Rng| {
+        let name = format!("{start}{}", rng.below(alphabet));
+        if rng.one_in(20) {
+            odd(rng, &name)
+        } else {
+            u32(&name, i as u32)
+        }
+    };
+    let records = (0..count).map(|i| record(i, rng)).collect();
+    level("wide", records)
 }
 
 /// Levels below each other, around the depth of 64; innermost a number, an empty level or nothing.
