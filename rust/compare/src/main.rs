@@ -11,8 +11,6 @@ mod answers;
 mod check;
 mod numbers;
 mod original;
-mod plan;
-
 mod reader;
 mod run;
 mod table;
@@ -20,6 +18,7 @@ mod tally;
 #[path = "../driver/wire.rs"]
 mod wire;
 
+use compare::plan;
 use original::Original;
 use run::{Case, Run};
 use std::io;

@@ -1,0 +1,145 @@
+//! Which files are in the list, and what is asked about them.
+
+use crate::answer::State;
+use crate::questions::{about, random};
+use crate::step::Step;
+use sample::parts::{self, Sizes};
+use sample::{Nd2, Roller};
+use second::Summary;
+use std::collections::BTreeSet;
+
+/// So many random files are taken as they come, from seed 1 on.
+const FILES: usize = 200;
+/// Of the files up to this seed, each is taken that gives a number in a call which no file before it gave.
+const LAST_SEED: u64 = 20_000;
+/// Larger files are not taken as they come, and larger ones not at all.
+const MOST_COMMON: usize = 1_400;
+const MOST_FILE: usize = 4_000;
+
+/// All steps, in order.
+pub fn steps() -> Vec<Step> {
+    let mut steps = edges();
+    steps.extend(rollers());
+    steps.extend(random_files());
+    steps
+}
+
+/// The numbers that each call gives.
+pub fn given(steps: &[Step]) -> BTreeSet<(&'static str, u32)> {
+    let mut state = State::default();
+    let answers = steps.iter().filter_map(|step| state.take(step));
+    answers.map(|answer| (answer.call, answer.number)).collect()
+}
+
+fn random_files() -> Vec<Step> {
+    let mut all = Vec::new();
+    let mut seen = BTreeSet::new();
+    let mut files = 0;
+    for seed in 1..=LAST_SEED {
+        let file = sample::random::file(seed);
+        let len = file.len();
+        if len > MOST_FILE {
+            continue;
+        }
+        let Some(steps) = random(seed, file) else {
+            continue;
+        };
+        let given = given(&steps);
+        let common = files < FILES && len <= MOST_COMMON;
+        if common || !given.is_subset(&seen) {
+            seen.extend(given);
+            all.extend(steps);
+            files += 1;
+        }
+    }
+    all
+}
+
+fn roller(points: u32, steps: u32, lamps: u32) -> Roller {
+    Roller {
+        points,
+        steps,
+        lamps,
+        width: 3,
+        height: 2,
+        padding: 0,
+        focus_outside: false,
+        pixel: 0.325,
+        step: 0.5,
+    }
+}
+
+/// Every plane of small rollers, and of one whose focus loop is the outer one.
+fn rollers() -> Vec<Step> {
+    let inside = roller(3, 2, 2);
+    let outside = Roller {
+        padding: 3,
+        focus_outside: true,
+        ..inside
+    };
+    let mut all = every_plane("a roller", inside);
+    all.extend(every_plane("a roller, focus outside", outside));
+    all
+}
+
+fn every_plane(label: &str, roller: Roller) -> Vec<Step> {
+    let mut steps = about(label, roller.file());
+    let buffer = 2 * (roller.width * roller.height) as usize;
+    for point in 0..roller.points as u64 {
+        for step in 0..roller.steps as u64 {
+            for lamp in 0..roller.lamps as u64 {
+                let at = [point, 0, lamp, step];
+                steps.push(Step::Plane { at, buffer });
+            }
+        }
+    }
+    steps
+}
+
+/// Document 01's edges that are run.
+fn edges() -> Vec<Step> {
+    let mut steps = ceiling();
+    for (label, step) in [
+        ("z 1000 is class 1", 1000.0),
+        ("z 1000.0001 is class 3", 1000.0001),
+    ] {
+        let roller = Roller {
+            step,
+            ..roller(1, 2, 1)
+        };
+        steps.extend(about(label, roller.file()));
+    }
+    steps
+}
+
+/// Planes at the ceiling and one column over it, asked of a file whose only frame is small.
+fn ceiling() -> Vec<Step> {
+    let mut file = Nd2::new();
+    let sizes = Sizes::packed(1, 1, 1, 8);
+    file.add(parts::ATTRIBUTES, &parts::attributes(sizes).encode());
+    file.add(parts::EXPERIMENT, &parts::experiment(&[]).encode());
+    file.add(&parts::frame_name(0), &parts::frame(&[7]));
+    let file = file.finish();
+    let opened = second::calls::opened(&file, usize::MAX).unwrap_or_default();
+    let of_width = |width: u64| Summary {
+        width,
+        stride: width,
+        height: 65_536,
+        ..opened
+    };
+    let at = [0; 4];
+    let asked = |label: &str, width| {
+        [
+            Step::Label(label.to_string()),
+            Step::Summary(of_width(width)),
+            Step::Plane { at, buffer: 16 },
+        ]
+    };
+    let mut steps = about("a file of one sample", file.clone());
+    steps.extend(asked(
+        "65,536 by 65,536 bytes passes: the frame is short, 24",
+        65_536,
+    ));
+    steps.extend(asked("65,537 by 65,536 bytes gives 22", 65_537));
+    steps
+}
