@@ -1,0 +1,91 @@
+// A cursor that carries a chunk's slice and the place in it, and one function over a plain slice and a place.
+use cursor::Cursor;
+use cursor::Word;
+ghost use mathlib.Core.Path.{_≡_};
+ghost use lib.ListN.{length};
+ghost use Rattle.cursor.specs.Words.{to, wordAt, GoodWord};
+ghost use Rattle.chunk_cursor.specs.Places.{bytesOf, partOf, placeAfter};
+
+// How many bytes a number has.
+pub enum Width {
+    One,
+    Two,
+    Four,
+    Eight,
+}
+
+// The number at a place of a slice and the cursor after it, or too few bytes for one.
+pub fn word_in(slice: &[u8], at: usize, width: Width) -> Word
+    ensures { λ r. ⌜ (r ≡ wordAt (bytesOf width) (now (slice .entry)) (to at (length (now (slice .entry))))) × GoodWord (now (slice .entry)) (to at (length (now (slice .entry)))) (bytesOf width) r ⌝ }
+{
+    let end = slice.len();
+    if end < at {
+        return Word::Cut;
+    }
+    let c = Cursor { at, end };
+    match width {
+        Width::One => c.read_u8(slice),
+        Width::Two => c.read_u16(slice),
+        Width::Four => c.read_u32(slice),
+        Width::Eight => c.read_u64(slice),
+    }
+}
+
+// A chunk's slice, and the place in it.
+pub struct ChunkCursor<'a> {
+    pub slice: &'a [u8],
+    pub at: usize,
+}
+
+// The cursor at a place of a slice.
+pub fn new<'a>(slice: &'a [u8], at: usize) -> ChunkCursor<'a>
+    ensures { λ r. ⌜ (r .slice ≡ slice .entry) × (r .at ≡ at) ⌝ }
+{
+    ChunkCursor { slice, at }
+}
+
+// The number in one byte at the cursor, or too few bytes for one.
+pub fn read_u8<'a>(c: ChunkCursor<'a>) -> Word
+    ensures { λ r. ⌜ (r ≡ wordAt 1 (now (c .entry .slice)) (partOf (c .entry))) × GoodWord (now (c .entry .slice)) (partOf (c .entry)) 1 r ⌝ }
+{
+    word_in(c.slice, c.at, Width::One)
+}
+
+// The number in two bytes.
+pub fn read_u16<'a>(c: ChunkCursor<'a>) -> Word
+    ensures { λ r. ⌜ (r ≡ wordAt 2 (now (c .entry .slice)) (partOf (c .entry))) × GoodWord (now (c .entry .slice)) (partOf (c .entry)) 2 r ⌝ }
+{
+    word_in(c.slice, c.at, Width::Two)
+}
+
+// The number in four bytes.
+pub fn read_u32<'a>(c: ChunkCursor<'a>) -> Word
+    ensures { λ r. ⌜ (r ≡ wordAt 4 (now (c .entry .slice)) (partOf (c .entry))) × GoodWord (now (c .entry .slice)) (partOf (c .entry)) 4 r ⌝ }
+{
+    word_in(c.slice, c.at, Width::Four)
+}
+
+// The number in eight bytes.
+pub fn read_u64<'a>(c: ChunkCursor<'a>) -> Word
+    ensures { λ r. ⌜ (r ≡ wordAt 8 (now (c .entry .slice)) (partOf (c .entry))) × GoodWord (now (c .entry .slice)) (partOf (c .entry)) 8 r ⌝ }
+{
+    word_in(c.slice, c.at, Width::Eight)
+}
+
+// The place after what was read at a place: the same place where that was cut.
+pub fn place_after(at: usize, r: Word) -> usize
+    ensures { λ p. ⌜ p ≡ placeAfter at r ⌝ }
+{
+    match r {
+        Word::Got(_, d) => d.at,
+        Word::Cut => at,
+    }
+}
+
+// The cursor after what was read at it: the same slice, and the place after.
+pub fn after<'a>(c: ChunkCursor<'a>, r: Word) -> ChunkCursor<'a>
+    ensures { λ n. ⌜ (n .slice ≡ c .entry .slice) × (n .at ≡ placeAfter (c .entry .at) r) ⌝ }
+{
+    let at = place_after(c.at, r);
+    ChunkCursor { slice: c.slice, at }
+}
