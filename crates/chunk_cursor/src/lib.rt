@@ -31,47 +31,6 @@ pub fn word_in(slice: &[u8], at: usize, width: Width) -> Word
     }
 }
 
-// A chunk's slice, and the place in it.
-pub struct ChunkCursor<'a> {
-    pub slice: &'a [u8],
-    pub at: usize,
-}
-
-// The cursor at a place of a slice.
-pub fn new<'a>(slice: &'a [u8], at: usize) -> ChunkCursor<'a>
-    ensures { λ r. ⌜ (r .slice ≡ slice .entry) × (r .at ≡ at) ⌝ }
-{
-    ChunkCursor { slice, at }
-}
-
-// The number in one byte at the cursor, or too few bytes for one.
-pub fn read_u8<'a>(c: ChunkCursor<'a>) -> Word
-    ensures { λ r. ⌜ (r ≡ wordAt 1 (now (c .entry .slice)) (partOf (c .entry))) × GoodWord (now (c .entry .slice)) (partOf (c .entry)) 1 r ⌝ }
-{
-    word_in(c.slice, c.at, Width::One)
-}
-
-// The number in two bytes.
-pub fn read_u16<'a>(c: ChunkCursor<'a>) -> Word
-    ensures { λ r. ⌜ (r ≡ wordAt 2 (now (c .entry .slice)) (partOf (c .entry))) × GoodWord (now (c .entry .slice)) (partOf (c .entry)) 2 r ⌝ }
-{
-    word_in(c.slice, c.at, Width::Two)
-}
-
-// The number in four bytes.
-pub fn read_u32<'a>(c: ChunkCursor<'a>) -> Word
-    ensures { λ r. ⌜ (r ≡ wordAt 4 (now (c .entry .slice)) (partOf (c .entry))) × GoodWord (now (c .entry .slice)) (partOf (c .entry)) 4 r ⌝ }
-{
-    word_in(c.slice, c.at, Width::Four)
-}
-
-// The number in eight bytes.
-pub fn read_u64<'a>(c: ChunkCursor<'a>) -> Word
-    ensures { λ r. ⌜ (r ≡ wordAt 8 (now (c .entry .slice)) (partOf (c .entry))) × GoodWord (now (c .entry .slice)) (partOf (c .entry)) 8 r ⌝ }
-{
-    word_in(c.slice, c.at, Width::Eight)
-}
-
 // The place after what was read at a place: the same place where that was cut.
 pub fn place_after(at: usize, r: Word) -> usize
     ensures { λ p. ⌜ p ≡ placeAfter at r ⌝ }
@@ -82,10 +41,56 @@ pub fn place_after(at: usize, r: Word) -> usize
     }
 }
 
-// The cursor after what was read at it: the same slice, and the place after.
-pub fn after<'a>(c: ChunkCursor<'a>, r: Word) -> ChunkCursor<'a>
-    ensures { λ n. ⌜ (n .slice ≡ c .entry .slice) × (n .at ≡ placeAfter (c .entry .at) r) ⌝ }
-{
-    let at = place_after(c.at, r);
-    ChunkCursor { slice: c.slice, at }
+// A chunk's slice, and the place in it.
+pub struct ChunkCursor<'a> {
+    pub slice: &'a [u8],
+    pub at: usize,
+}
+
+impl<'a> ChunkCursor<'a> {
+    // The cursor at a place of a slice.
+    pub fn new(slice: &'a [u8], at: usize) -> ChunkCursor<'a>
+        ensures { λ r. ⌜ (r .slice ≡ slice .entry) × (r .at ≡ at) ⌝ }
+    {
+        ChunkCursor { slice, at }
+    }
+
+    // The number in one byte at the cursor, or too few bytes for one.
+    pub fn read_u8(self) -> Word
+        ensures { λ r. ⌜ (r ≡ wordAt 1 (now (self .entry .slice)) (partOf (self .entry))) × GoodWord (now (self .entry .slice)) (partOf (self .entry)) 1 r ⌝ }
+    {
+        word_in(self.slice, self.at, Width::One)
+    }
+
+    // The number in two bytes.
+    pub fn read_u16(self) -> Word
+        ensures { λ r. ⌜ (r ≡ wordAt 2 (now (self .entry .slice)) (partOf (self .entry))) × GoodWord (now (self .entry .slice)) (partOf (self .entry)) 2 r ⌝ }
+    {
+        word_in(self.slice, self.at, Width::Two)
+    }
+
+    // The number in four bytes.
+    pub fn read_u32(self) -> Word
+        ensures { λ r. ⌜ (r ≡ wordAt 4 (now (self .entry .slice)) (partOf (self .entry))) × GoodWord (now (self .entry .slice)) (partOf (self .entry)) 4 r ⌝ }
+    {
+        word_in(self.slice, self.at, Width::Four)
+    }
+
+    // The number in eight bytes.
+    pub fn read_u64(self) -> Word
+        ensures { λ r. ⌜ (r ≡ wordAt 8 (now (self .entry .slice)) (partOf (self .entry))) × GoodWord (now (self .entry .slice)) (partOf (self .entry)) 8 r ⌝ }
+    {
+        word_in(self.slice, self.at, Width::Eight)
+    }
+
+    // The cursor after what was read at it: the same slice, and the place after.
+    pub fn after(self, r: Word) -> ChunkCursor<'a>
+        ensures { λ n. ⌜ (n .slice ≡ self .entry .slice) × (n .at ≡ placeAfter (self .entry .at) r) ⌝ }
+    {
+        let at = place_after(self.at, r);
+        ChunkCursor {
+            slice: self.slice,
+            at,
+        }
+    }
 }

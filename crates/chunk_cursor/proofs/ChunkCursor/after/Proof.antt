@@ -1,4 +1,4 @@
--- `chunk_cursor::after` meets its contract: a walk of its MIR, by hand. `place_after` is called on the cursor's place and what was read, and a cursor is made anew of the slice that the one passed holds, and that place.
+-- `ChunkCursor::after` meets its contract: a walk of its MIR, by hand. `place_after` is called on the cursor's place and what was read, and a cursor is made anew of the slice that the one passed holds, and that place.
 -- The struct is Copy: what it owns is had twice, one copy is kept whole for the exit, and the other, with the facts of the new place in the place of the old one's, is what the result owns. All that the proof knows of `place_after` is that it meets its contract.
 -- Assumes nothing.
 use mathlib.Core.Path.{_≡_, refl, ap}
@@ -50,10 +50,10 @@ use Rattle.chunk_cursor.proofs.place_after as step
 use Rattle.chunk_cursor.proofs.place_after.Symbol as step-def
 use Rattle.chunk_cursor.proofs.place_after.Symbol.{name as #chunk-cursor·place-after}
 use Rattle.chunk_cursor.proofs.place_after.Met as step-thm
-use Rattle.chunk_cursor.proofs.after.Key.{name as #chunk-cursor·after}
-use Rattle.chunk_cursor.proofs.after as after
-use Rattle.chunk_cursor.proofs.after.Statement as stated
-use Rattle.chunk_cursor.proofs.after.Code as code
+use Rattle.chunk_cursor.proofs.ChunkCursor.after.Key.{name as #chunk-cursor·ChunkCursor·after}
+use Rattle.chunk_cursor.proofs.ChunkCursor.after as after
+use Rattle.chunk_cursor.proofs.ChunkCursor.after.Statement as stated
+use Rattle.chunk_cursor.proofs.ChunkCursor.after.Code as code
 
 -- the struct's type, over the signature's lifetimes
 abbrev B : Lfts 1 → RattleType
@@ -145,6 +145,6 @@ pub after-spec : {M : Type 1} → stated.statement M
 unfolding code.routine tablesOf
 after-spec 𝓤 H 𝓜 𝓖 𝓡 =
     entered 𝓤 H (tripleOf 𝓤 H (𝓖 .A) after.signature (after.spec 𝓤 H (𝓖 .A) (𝓜 .mem) (𝓡 .run)))
-    (tables 𝓤 H 𝓜 𝓡 code.env .C) (tables 𝓤 H 𝓜 𝓡 code.env .Λ) #chunk-cursor·after code.function (code.unfolded 𝓤 H 𝓜 𝓡)
+    (tables 𝓤 H 𝓜 𝓡 code.env .C) (tables 𝓤 H 𝓜 𝓡 code.env .Λ) #chunk-cursor·ChunkCursor·after code.function (code.unfolded 𝓤 H 𝓜 𝓡)
     (after-meets 𝓤 H (𝓖 .A) (givenOf 𝓤 H 𝓜 𝓖) (𝓜 .mem) (𝓡 .run) (tablesOf 𝓤 H 𝓜 (tables 𝓤 H 𝓜 𝓡 code.env))
     (cited 𝓤 H (PlaceAfter 𝓤 H (𝓖 .A) (𝓜 .mem) (𝓡 .run)) 𝓜 𝓡 code.env #chunk-cursor·place-after step-def.routine code.calls-chunk-cursor·place-after (step-thm.met 𝓤 H 𝓜 𝓖 𝓡)))

@@ -1,4 +1,4 @@
--- `chunk_cursor::new` meets its contract: a walk of its MIR, by hand. A `ChunkCursor` is made of the slice and the place that are passed, in the result's local.
+-- `ChunkCursor::new` meets its contract: a walk of its MIR, by hand. A `ChunkCursor` is made of the slice and the place that are passed, in the result's local.
 -- A `&[u8]` is Copy, so what it owns is had twice: once for slice at exit, and once inside the result, beside the facts of at.
 -- Assumes nothing.
 use mathlib.Core.Path.{refl}
@@ -37,10 +37,10 @@ use denote.Exit.{yes}
 use Rattle.chunk_cursor.specs.declared.ChunkCursor.{ChunkCursor}
 use Rattle.chunk_cursor.proofs.ChunkCursor as T
 use Rattle.chunk_cursor.proofs.ChunkCursor.Laws as T′
-use Rattle.chunk_cursor.proofs.new.Key.{name as #chunk-cursor·new}
-use Rattle.chunk_cursor.proofs.new as new
-use Rattle.chunk_cursor.proofs.new.Statement as stated
-use Rattle.chunk_cursor.proofs.new.Code as code
+use Rattle.chunk_cursor.proofs.ChunkCursor.new.Key.{name as #chunk-cursor·ChunkCursor·new}
+use Rattle.chunk_cursor.proofs.ChunkCursor.new as new
+use Rattle.chunk_cursor.proofs.ChunkCursor.new.Statement as stated
+use Rattle.chunk_cursor.proofs.ChunkCursor.new.Code as code
 
 abbrev stayed : Stays (new.ended .signature .params) (new.ended .kept)
 stayed = (stay-none-slice (0 ∷ []) tt (plain (λ _. u8)) yes, (stay-none (λ _. usize) yes, tt))
@@ -94,5 +94,5 @@ pub new-spec : {M : Type 1} → stated.statement M
 unfolding code.routine tablesOf
 new-spec 𝓤 H 𝓜 𝓖 𝓡 =
     entered 𝓤 H (tripleOf 𝓤 H (𝓖 .A) new.signature (new.spec 𝓤 H (𝓖 .A) (𝓜 .mem) (𝓡 .run)))
-    (tables 𝓤 H 𝓜 𝓡 code.env .C) (tables 𝓤 H 𝓜 𝓡 code.env .Λ) #chunk-cursor·new code.function (code.unfolded 𝓤 H 𝓜 𝓡)
+    (tables 𝓤 H 𝓜 𝓡 code.env .C) (tables 𝓤 H 𝓜 𝓡 code.env .Λ) #chunk-cursor·ChunkCursor·new code.function (code.unfolded 𝓤 H 𝓜 𝓡)
     (new-meets 𝓤 H (𝓖 .A) (givenOf 𝓤 H 𝓜 𝓖) (𝓜 .mem) (𝓡 .run) (tablesOf 𝓤 H 𝓜 (tables 𝓤 H 𝓜 𝓡 code.env)))
