@@ -2,6 +2,7 @@
 use cursor::Cursor;
 use cursor::Word;
 ghost use mathlib.Core.Path.{_≡_};
+ghost use Prim.Native.Nat.{_+_};
 ghost use lib.ListN.{length};
 ghost use Rattle.cursor.specs.Words.{to, wordAt, GoodWord};
 ghost use Rattle.chunk_cursor.specs.Places.{bytesOf, partOf, placeAfter};
@@ -93,4 +94,13 @@ impl<'a> ChunkCursor<'a> {
             at,
         }
     }
+}
+
+// How many units the name of the record at a place of a tree's slice has: the byte after its type.
+pub fn name_units(slice: &[u8], at: usize) -> Word
+    ensures { λ r. ⌜ r ≡ wordAt 1 (now (slice .entry)) (to (at + 1) (length (now (slice .entry)))) ⌝ }
+{
+    let c = ChunkCursor::new(slice, at);
+    let kind = c.read_u8();
+    c.after(kind).read_u8()
 }
