@@ -1,5 +1,9 @@
 -- A place past the end is cut at every width; elsewhere the by-value read of that width answers.
+use Prim.Native.Nat.{_<_}
+use native.Mathlib.Omega.{arith}
+use lib.ListN.{length}
 use denote.Ref.{now}
+use Rattle.cursor.specs.Words.{to}
 use Rattle.cursor.proofs.Reading.{cut}
 use Rattle.chunk_cursor.specs.Places.{bytesOf}
 use Rattle.chunk_cursor.proofs.Widths.{past}
@@ -10,7 +14,8 @@ use Rattle.chunk_cursor.proofs.word_in.Tie as tie
 returns : tie.Need-returns
 returns c =
     let a = c .before .before .args in
-    cut (bytesOf (a .width)) (now (a .slice)) _ (past (a .width) (c .if1 .taken))
+    let h : length (now (a .slice)) < a .at = omega (arith, c .if1) in
+    cut (bytesOf (a .width)) (now (a .slice)) (to (a .at) (length (now (a .slice)))) (past (a .width) h)
 
 enum-told : tie.Need-enum-told
 enum-told c = search needs
