@@ -1,0 +1,5 @@
+pub mod Records
+pub mod Levels
+pub mod Rows
+pub mod Readying
+pub mod Promises

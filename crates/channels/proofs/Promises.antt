@@ -1,0 +1,81 @@
+-- What the number and the records of a channels call promise. Assumes nothing.
+use Prim.Native.Nat.{ℕ}
+use mathlib.Core.Path.{_≡_, refl, ap, _∙_}
+use mathlib.Core.Logic.{_↔_}
+use mathlib.Core.List.{List}
+use lib.ListN.{length, getD, replicate, length-replicate}
+use Rattle.format.specs.Answer.{Answer, numberOf}
+use Rattle.format.specs.Bytes.{zeros}
+use Rattle.format.specs.Trees.{roomIn}
+use Rattle.format.specs.Channels.{emptyChannel, fitted}
+use Rattle.format.specs.Calls.Channels.{recordsOf, rowBy, channelsCall}
+use Rattle.format.specs.Demands.{Refuses, None}
+use Rattle.format.specs.Refused.Order.{First}
+use Rattle.format.specs.Refused.Channels.{ChannelsRefusal, channelsOrder}
+use Rattle.format.specs.declared.Channel.{Channel}
+use Rattle.format.specs.declared.Summary.{Summary}
+use Rattle.format.proofs.ChannelCalls.{channels-number, channels-accepted, channels-refused}
+use Rattle.channels.specs.Ahead.{ahead}
+use Rattle.channels.specs.Ready.{Ready}
+use Rattle.channels.specs.declared.Prepared.{Prepared}
+use Rattle.channels.proofs.Rows.{blank}
+
+module _ (s : List ℕ) (u : Summary) (bytes : List ℕ) (n : ℕ) where
+  abbrev R : ℕ → Type 0
+  R = ChannelsRefusal s u (roomIn (length bytes)) n
+
+  -- what a call makes of a row of n records
+  abbrev answer : Answer (List Channel)
+  answer = recordsOf s u (roomIn (length bytes)) n
+
+  number-of : (cs : List Channel) → length cs ≡ n → numberOf answer ≡ channelsCall s u bytes cs .number
+  unfolding channelsCall
+  number-of cs e = rw (← e) refl
+
+  row-of : (cs : List Channel) → length cs ≡ n → rowBy n (u .components) answer ≡ channelsCall s u bytes cs .row
+  unfolding channelsCall
+  row-of cs e = rw (← e) refl
+
+  -- ---- the sentences, of the number of a call
+
+  first : First R channelsOrder (numberOf answer)
+  unfolding channelsCall
+  first = rw length-replicate at (channels-number s u bytes (replicate n emptyChannel))
+
+  accepted : (numberOf answer ≡ 0) ↔ None R
+  unfolding channelsCall
+  accepted = rw length-replicate at (channels-accepted s u bytes (replicate n emptyChannel))
+
+  emptied : Refuses (numberOf answer) → rowBy n (u .components) answer ≡ replicate n emptyChannel
+  unfolding channelsCall
+  emptied = rw length-replicate at (channels-refused s u bytes (replicate n emptyChannel))
+
+  -- ---- one record
+
+  abbrev pub Promised : ℕ → ℕ → Channel → List ℕ → Type 0
+  Promised i k c out =
+      ((cs : List Channel) → length cs ≡ n → k ≡ channelsCall s u bytes cs .number)
+      × (((cs : List Channel) → length cs ≡ n → c ≡ getD (channelsCall s u bytes cs .row) i emptyChannel)
+      × ((out ≡ zeros (length bytes)) × (First R channelsOrder k × (((k ≡ 0) ↔ None R) × (Refuses k → c ≡ emptyChannel)))))
+
+  pub one-record : {t : List ℕ} {p : Prepared} (i : ℕ) {k : ℕ} {c : Channel} {out : List ℕ} → Ready s t n (u .components) answer p → k ≡ p .number
+      → c ≡ getD (fitted n (ahead s t (p .planes))) i emptyChannel → out ≡ zeros (length bytes) → Promised i k c out
+  one-record {t} {p} i {k} {c} r y e z = (
+    λ cs h. x ∙ number-of cs h,
+    (
+      λ cs h. q ∙ ap (λ (l : List Channel). getD l i emptyChannel) (row-of cs h),
+      (
+        z,
+        (
+          rw x first,
+          (rw x accepted, λ f. q ∙ ap (λ (l : List Channel). getD l i emptyChannel) (emptied (λ z. f (x ∙ z))) ∙ blank n i),
+        ),
+      ),
+    ),
+  )
+    where
+      x : k ≡ numberOf answer
+      x = y ∙ r .number
+
+      q : c ≡ getD (rowBy n (u .components) answer) i emptyChannel
+      q = rw (r .row) e
