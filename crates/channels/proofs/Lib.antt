@@ -3,3 +3,6 @@ pub mod Levels
 pub mod Rows
 pub mod Readying
 pub mod Promises
+pub mod Lay
+pub mod Again
+pub mod Facts

@@ -1,6 +1,6 @@
 -- What the number and the records of a channels call promise. Assumes nothing.
 use Prim.Native.Nat.{ℕ}
-use mathlib.Core.Path.{_≡_, refl, ap, _∙_}
+use mathlib.Core.Path.{_≡_, refl, sym, ap, _∙_}
 use mathlib.Core.Logic.{_↔_}
 use mathlib.Core.List.{List}
 use lib.ListN.{length, getD, replicate, length-replicate}
@@ -79,3 +79,28 @@ module _ (s : List ℕ) (u : Summary) (bytes : List ℕ) (n : ℕ) where
 
       q : c ≡ getD (rowBy n (u .components) answer) i emptyChannel
       q = rw (r .row) e
+
+-- ---- a whole row
+
+module _ (s : List ℕ) (u : Summary) (bytes : List ℕ) (row : List Channel) where
+  abbrev Whole : ℕ → Type 0
+  Whole = ChannelsRefusal s u (roomIn (length bytes)) (length row)
+
+  -- the call's number, table and row, and the sentences that follow
+  abbrev pub Filled : ℕ → List ℕ → List Channel → Type 0
+  Filled k ts zs =
+      (k ≡ channelsCall s u bytes row .number) × (ts ≡ channelsCall s u bytes row .table) × (zs ≡ channelsCall s u bytes row .row) × (ts ≡ zeros (length bytes))
+      × First Whole channelsOrder k × ((k ≡ 0) ↔ None Whole) × (Refuses k → zs ≡ replicate (length row) emptyChannel)
+
+  pub whole-row : {t : List ℕ} {p : Prepared} {ts : List ℕ} {zs : List Channel} → Ready s t (length row) (u .components) (recordsOf s u (roomIn (length bytes)) (length row)) p
+      → ts ≡ zeros (length bytes) → zs ≡ fitted (length row) (ahead s t (p .planes)) → Filled (p .number) ts zs
+  unfolding channelsCall
+  whole-row r z e = (
+    r .number,
+    z,
+    e ∙ sym (r .row),
+    z,
+    rw (r .number) (channels-number s u bytes row),
+    rw (r .number) (channels-accepted s u bytes row),
+    λ f. e ∙ sym (r .row) ∙ channels-refused s u bytes row (λ q. f (r .number ∙ q)),
+  )

@@ -10,7 +10,7 @@ use Rattle.format.specs.declared.Channel.{Channel}
 use Rattle.lookup.specs.Table.{entryIn, entriesIn, Holds}
 use Rattle.lookup.specs.Walks.{Standing, restOf}
 use Rattle.lookup.specs.declared.Turn.{Turn}
-use Rattle.channels.specs.Ahead.{recordsAt, recordsFrom, ahead, recordOf, Stands, noPlanes}
+use Rattle.channels.specs.Ahead.{recordsAt, recordsFrom, ahead, recordOf, Stands, Follows, noPlanes}
 use Rattle.channels.specs.declared.planes.Planes.{Planes}
 
 -- ---- rows
@@ -120,8 +120,8 @@ module _ (s t : List ℕ) (first : Planes) where
   on-first h = record { stands = h; from = λ j. ap (recordOf s t first) (omega arith) }
 
   module _ {k : ℕ} {p : Planes} (o : On s t first k p) where
-    pub on-next : {r : Planes} → Stands s t r × ((j : ℕ) → recordOf s t r j ≡ recordOf s t p (suc j)) → On s t first (k + 1) r
-    on-next (h, f) = record { stands = h; from = λ j. f j ∙ o .from (suc j) ∙ ap (recordOf s t first) (omega arith) }
+    pub on-next : {r : Planes} → Follows s t p r → On s t first (k + 1) r
+    on-next n = record { stands = n .stands; from = λ j. n .behind j ∙ o .from (suc j) ∙ ap (recordOf s t first) (omega arith) }
 
     pub on-record : p .channel ≡ recordOf s t first k
     unfolding ahead

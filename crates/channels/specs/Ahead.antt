@@ -1,5 +1,6 @@
 -- The plane records that a walk has still before it.
-use Prim.Native.Nat.{ℕ}
+use Prim.Native.Nat.{ℕ, suc}
+use mathlib.Core.Path.{_≡_}
 use mathlib.Core.List.{List, [], _∷_}
 use lib.ListN.{getD, take}
 use Rattle.format.specs.Channels.{emptyChannel, channelOf}
@@ -33,6 +34,11 @@ recordOf s t p k = getD (ahead s t p) k emptyChannel
 pub record Stands (s t : List ℕ) (p : Planes) : Type 0 where
   pub holds : Holds s t (p .used)
   pub standing : Standing (entryIn t) (p .used) (p .rest)
+
+-- r has the records before it that p has behind its next one
+pub record Follows (s t : List ℕ) (p r : Planes) : Type 0 where
+  pub stands : Stands s t r
+  pub behind : (k : ℕ) → recordOf s t r k ≡ recordOf s t p (suc k)
 
 -- empty records alone
 abbrev pub noPlanes : Planes

@@ -17,7 +17,7 @@ use tree::Parsed;
 ghost use mathlib.Core.Path.{_≡_};
 ghost use mathlib.Core.Logic.{_↔_};
 ghost use mathlib.Core.List.{List};
-ghost use lib.ListN.{length, getD};
+ghost use lib.ListN.{length, getD, replicate};
 ghost use Rattle.format.specs.Bytes.{zeros};
 ghost use Rattle.format.specs.Trees.{roomIn};
 ghost use Rattle.format.specs.Channels.{emptyChannel, fitted};
@@ -28,7 +28,7 @@ ghost use Rattle.format.specs.Demands.{Refuses, None};
 ghost use Rattle.format.specs.declared.Channel.{Channel};
 ghost use Rattle.chunk.specs.Answers.{lookupOf};
 ghost use Rattle.named_tree.specs.Named.{treeUnder};
-ghost use Rattle.channels.specs.Ahead.{ahead, Stands, noPlanes};
+ghost use Rattle.channels.specs.Ahead.{ahead, Stands, Follows, noPlanes};
 ghost use Rattle.channels.specs.Ready.{Ready, IsBroken};
 
 pub mod record; // the record of one plane
@@ -124,10 +124,10 @@ fn record_at(file: &[u8], table: &[u8], first: Planes, row: usize, i: usize) -> 
 }
 
 // A number and a record, and a table of zeros.
-fn ended(table: &mut [u8], number: u32, channel: Channel) -> OneChannel
-    ensures { λ r. ⌜ (r .number ≡ number) × (r .channel ≡ channel) × (now (table .exit) ≡ zeros (length (now (table .entry)))) ⌝ }
+fn ended(lent: &mut [u8], number: u32, channel: Channel) -> OneChannel
+    ensures { λ r. ⌜ (r .number ≡ number) × (r .channel ≡ channel) × (now (lent .exit) ≡ zeros (length (now (lent .entry)))) ⌝ }
 {
-    clear(table);
+    clear(lent);
     OneChannel { number, channel }
 }
 
@@ -144,4 +144,43 @@ pub fn channel(file: &[u8], u: Summary, table: &mut [u8], row: usize, i: usize) 
     let first = p.planes;
     let c = record_at(file, table, first, row, i);
     ended(table, p.number, c)
+}
+
+// The records after the next one, for a caller that holds the table to write. The table stays as it is.
+fn pass(file: &[u8], table: &mut [u8], p: Planes) -> Planes
+    requires { ⌜ Stands (now file) (now table) p ⌝ }
+    ensures { λ r. ⌜ Follows (now (file .entry)) (now (table .entry)) p r × (now (table .exit) ≡ now (table .entry)) ⌝ }
+{
+    next_plane(file, table, p)
+}
+
+// Fills the row with the records of a walk, and clears the table that it goes by.
+fn fill(file: &[u8], table: &mut [u8], first: Planes, row: &mut [Channel])
+    requires { ⌜ Stands (now file) (now table) first ⌝ }
+    ensures { λ _. ⌜ (now (table .exit) ≡ zeros (length (now (table .entry)))) × (now (row .exit) ≡ fitted (length (now (row .entry))) (ahead (now (file .entry)) (now (table .entry)) first)) ⌝ }
+{
+    let mut p = first;
+    let mut i = 0;
+    while i < row.len() {
+        row[i] = p.channel;
+        p = pass(file, table, p);
+        i += 1;
+    }
+    clear(table);
+}
+
+// The channels of a file: 0, or the number of the first refusal. A record for each component; surplus records are empty, and all of them on a refusal.
+pub fn channels(file: &[u8], u: Summary, table: &mut [u8], row: &mut [Channel]) -> u32
+    ensures number { λ r. ⌜ r ≡ channelsCall (now (file .entry)) u (now (table .entry)) (now (row .entry)) .number ⌝ }
+    ensures table { λ _. ⌜ now (table .exit) ≡ channelsCall (now (file .entry)) u (now (table .entry)) (now (row .entry)) .table ⌝ }
+    ensures row { λ _. ⌜ now (row .exit) ≡ channelsCall (now (file .entry)) u (now (table .entry)) (now (row .entry)) .row ⌝ }
+    ensures cleared { λ _. ⌜ now (table .exit) ≡ zeros (length (now (table .entry))) ⌝ }
+    ensures first { λ r. ⌜ First (ChannelsRefusal (now (file .entry)) u (roomIn (length (now (table .entry)))) (length (now (row .entry)))) channelsOrder r ⌝ }
+    ensures accepted { λ r. ⌜ ((r ≡ 0) ↔ None (ChannelsRefusal (now (file .entry)) u (roomIn (length (now (table .entry)))) (length (now (row .entry))))) ⌝ }
+    ensures emptied { λ r. ⌜ (Refuses r → now (row .exit) ≡ replicate (length (now (row .entry))) emptyChannel) ⌝ }
+{
+    let p = prepare(file, u, table, row.len());
+    let first = p.planes;
+    fill(file, table, first, row);
+    p.number
 }

@@ -1,11 +1,11 @@
 // A walk over the plane records of a tree.
 ghost use mathlib.Core.Path.{_≡_};
-ghost use Prim.Native.Nat.{ℕ, suc};
+ghost use Prim.Native.Nat.{ℕ};
 ghost use lib.ListN.{getD, take};
 ghost use Rattle.format.specs.Channels.{emptyChannel, planesLevel, planeRecords};
 ghost use Rattle.lookup.specs.Table.{entryIn, entriesIn, Holds, found, Within};
 ghost use Rattle.lookup.specs.Walks.{Standing};
-ghost use Rattle.channels.specs.Ahead.{recordsFrom, recordOf, Stands, noPlanes};
+ghost use Rattle.channels.specs.Ahead.{recordsFrom, recordOf, Stands, Follows, noPlanes};
 use super::record::channel_of;
 use super::record::no_channel;
 use format::Channel;
@@ -77,7 +77,7 @@ fn planes_from(file: &[u8], table: &[u8], used: usize, turn: Turn, most: u64) ->
 // The records after the next one.
 pub fn next_plane(file: &[u8], table: &[u8], p: Planes) -> Planes
     requires { ⌜ Stands (now file) (now table) p ⌝ }
-    ensures { λ r. ⌜ Stands (now (file .entry)) (now (table .entry)) r × ((k : ℕ) → recordOf (now (file .entry)) (now (table .entry)) r k ≡ recordOf (now (file .entry)) (now (table .entry)) p (suc k)) ⌝ }
+    ensures { λ r. ⌜ Follows (now (file .entry)) (now (table .entry)) p r ⌝ }
 {
     let turn = p.rest;
     planes_from(file, table, p.used, turn, p.left)

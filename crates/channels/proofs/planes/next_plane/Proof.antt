@@ -11,7 +11,7 @@ planes-from-requires c κs = search needs
 returns : tie.Need-returns
 returns c =
     let p = c .planes-from .ensures in
-    (p .0, λ k. p .1 k ∙ after-next _ _ _ k)
+    record { stands = p .0; behind = λ k. p .1 k ∙ after-next _ _ _ k }
 
 pub next-plane-spec : {M : Type 1} → statement M
 next-plane-spec = tie.close (tie.spec planes-from-requires returns)
