@@ -1,0 +1,35 @@
+-- `nd2_plane`: the plane call on the summary that the bytes say.
+use mathlib.Core.Path.{refl}
+use Rattle.capi.proofs.OnSummary.{on-some, on-none, both}
+use Rattle.capi.specs.OnBytes.{planeOn}
+use borrow.Author.Needs.{needs}
+use Rattle.capi.proofs.nd2_plane.Statement.{statement}
+use Rattle.capi.proofs.nd2_plane.Tie as tie
+
+summary-from-requires : tie.Need-summary-from-requires
+summary-from-requires c κs = search needs
+
+plane-requires : tie.Need-plane-requires
+plane-requires c κs = search needs
+
+same-length : tie.Need-same-length
+same-length c = search needs
+
+returns : tie.Need-returns
+unfolding planeOn
+returns c =
+    let p = c .before .before in
+    let i = p .before .before .before in
+    let l = i .before .summary-from in
+    let e = p .plane .ensures in
+    let (n, b) = both (on-some _ _ (l .result) (l .ensures) (i .if1 .taken)) (e .0) (e .1 .0) in (n, (b, e .1 .1 .1 .1 .1))
+
+returns-2 : tie.Need-returns-2
+unfolding planeOn
+returns-2 c =
+    let l = c .before .summary-from in
+    let (n, b) = both (on-none _ _ (l .result) (l .ensures) (c .if1 .left)) refl refl in (n, (b, λ _. refl))
+
+pub nd2-plane-spec : {M : Type 1} → statement M
+nd2-plane-spec =
+    tie.close (tie.spec summary-from-requires plane-requires same-length returns returns-2)

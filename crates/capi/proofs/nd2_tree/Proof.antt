@@ -1,0 +1,51 @@
+-- `nd2_tree`: the tree call on the summary that the bytes say.
+use mathlib.Core.Path.{refl}
+use Rattle.capi.proofs.OnSummary.{on-some, on-none, both}
+use Rattle.capi.specs.OnBytes.{treeOn}
+use borrow.Author.Needs.{needs}
+use Rattle.capi.proofs.nd2_tree.Statement.{statement}
+use Rattle.capi.proofs.nd2_tree.Tie as tie
+
+summary-from-requires : tie.Need-summary-from-requires
+summary-from-requires c κs = search needs
+
+tree-requires : tie.Need-tree-requires
+tree-requires c κs = search needs
+
+same-length : tie.Need-same-length
+same-length c = search needs
+
+returns : tie.Need-returns
+unfolding treeOn
+returns c =
+    let p = c .before .before in
+    let i = p .before .before .before in
+    let l = i .before .summary-from in
+    let e = p .tree .ensures in
+    let (n, b) = both (on-some _ _ (l .result) (l .ensures) (i .if1 .taken)) (e .0) (e .1 .0) in (n, (b, e .1 .1 .1 .1 .1))
+
+clear-requires : tie.Need-clear-requires
+clear-requires c κs = search needs
+
+same-length-2 : tie.Need-same-length-2
+same-length-2 c = search needs
+
+returns-2 : tie.Need-returns-2
+unfolding treeOn
+returns-2 c =
+    let d = c .before .before in
+    let i = d .before .before in
+    let l = i .before .summary-from in
+    let (n, b) = both (on-none _ _ (l .result) (l .ensures) (i .if1 .left)) refl (d .clear .ensures) in (n, (b, λ _. d .clear .ensures))
+
+pub nd2-tree-spec : {M : Type 1} → statement M
+nd2-tree-spec =
+    tie.close
+    (tie.spec
+    summary-from-requires
+    tree-requires
+    same-length
+    returns
+    clear-requires
+    same-length-2
+    returns-2)

@@ -1,0 +1,37 @@
+-- The calls over summaries in lent bytes: "a summary that is not of the layout is 20".
+use Prim.Native.Nat.{ℕ}
+use mathlib.Core.Bool.{cond}
+use mathlib.Core.Option.{Option, none, some}
+use mathlib.Core.List.{List}
+use lib.ListN.{length}
+use lib.Dec.{eqb}
+use Rattle.format.specs.Bytes.{zeros}
+use Rattle.format.specs.Refusals as why
+use Rattle.format.specs.Calls.Open.{openCall}
+use Rattle.format.specs.Calls.Plane.{Outcome, planeCall}
+use Rattle.format.specs.Calls.Tree.{treeCall}
+use Rattle.format.specs.Calls.Register.{registerCall}
+use Rattle.format.specs.declared.Summary.{Summary}
+use Rattle.layout.specs.Layout.{summaryFrom}
+
+-- what a call answers on the summary that the bytes say; `bad` is what the lent buffer holds where they say none
+unfoldable pub onSummary : List ℕ → (Summary → Outcome) → Option Summary → Outcome
+onSummary bad call none = record { number = why.summary; buffer = bad }
+onSummary bad call (some u) = call u
+
+unfoldable pub planeOn : List ℕ → List ℕ → ℕ → ℕ → ℕ → ℕ → List ℕ → Outcome
+unfolding onSummary summaryFrom planeCall
+planeOn file summary scene t c z samples = onSummary samples (λ u. planeCall file u scene t c z samples) (summaryFrom summary)
+
+unfoldable pub treeOn : List ℕ → List ℕ → List ℕ → List ℕ → Outcome
+unfolding onSummary summaryFrom treeCall
+treeOn file summary name table = onSummary (zeros (length table)) (λ u. treeCall file u name table) (summaryFrom summary)
+
+unfoldable pub registerOn : List ℕ → List ℕ → List ℕ → Outcome
+unfolding onSummary summaryFrom registerCall
+registerOn file summary buffer = onSummary buffer (λ u. registerCall file u buffer) (summaryFrom summary)
+
+-- the number of an opening: 20 where the bytes that are lent for the summary are not as long as one
+unfoldable pub openOn : List ℕ → List ℕ → List ℕ → ℕ
+unfolding openCall
+openOn file table summary = cond (eqb (length summary) 144) (openCall file table .number) why.summary

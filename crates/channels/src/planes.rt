@@ -1,0 +1,98 @@
+// A walk over the plane records of a tree.
+ghost use mathlib.Core.Path.{_≡_};
+ghost use Prim.Native.Nat.{ℕ};
+ghost use lib.ListN.{getD, take};
+ghost use Rattle.format.specs.Channels.{emptyChannel, planesLevel, planeRecords};
+ghost use Rattle.lookup.specs.Table.{entryIn, entriesIn, Holds, found, Within};
+ghost use Rattle.lookup.specs.Walks.{Standing};
+ghost use Rattle.channels.specs.Ahead.{recordsFrom, recordOf, Stands, Follows, noPlanes};
+use super::record::channel_of;
+use super::record::no_channel;
+use format::Channel;
+use lookup::ClxValue;
+use lookup::Field;
+use lookup::Found;
+use lookup::Next;
+use lookup::Turn;
+use lookup::child::children;
+use lookup::child::next_child;
+use lookup::level::get_level;
+
+// The plane records that a walk has before it: the next one, and where it stands after that, with so many left at the most. The table has `used` entries.
+pub struct Planes {
+    pub channel: Channel,
+    pub rest: Turn,
+    pub left: u64,
+    pub used: usize,
+}
+
+// Empty records alone.
+pub fn no_planes() -> Planes
+    ensures { λ r. ⌜ r ≡ noPlanes ⌝ }
+{
+    Planes {
+        channel: no_channel(),
+        rest: Turn::Over,
+        left: 0,
+        used: 0,
+    }
+}
+
+// The level whose children are the planes.
+fn planes_level(file: &[u8], table: &[u8], used: usize) -> Found
+    requires { ⌜ Holds (now file) (now table) used ⌝ }
+    ensures { λ r. ⌜ (found r ≡ planesLevel (now (file .entry)) (entriesIn (now (table .entry)) used)) × Within used r ⌝ }
+{
+    let Found::At(i) = get_level(file, table, used, 0, b"SLxPictureMetadata") else {
+        return Found::Nothing;
+    };
+    let Found::At(j) = get_level(file, table, used, i + 1, b"sPicturePlanes") else {
+        return Found::Nothing;
+    };
+    match get_level(file, table, used, j + 1, b"sPlaneNew") {
+        Found::At(k) => Found::At(k),
+        Found::Nothing => get_level(file, table, used, j + 1, b"sPlane"),
+    }
+}
+
+// The records of the planes from `turn` on, `most` at the most.
+fn planes_from(file: &[u8], table: &[u8], used: usize, turn: Turn, most: u64) -> Planes
+    requires { ⌜ Holds (now file) (now table) used × Standing (entryIn (now table)) used turn ⌝ }
+    ensures { λ r. ⌜ Stands (now (file .entry)) (now (table .entry)) r × ((k : ℕ) → recordOf (now (file .entry)) (now (table .entry)) r k ≡ getD (take most (recordsFrom (now (file .entry)) (now (table .entry)) used turn)) k emptyChannel) ⌝ }
+{
+    if most == 0 {
+        return no_planes();
+    }
+    match next_child(file, table, used, turn) {
+        Next::End => no_planes(),
+        Next::Child(i, rest) => Planes {
+            channel: channel_of(file, table, used, i),
+            rest,
+            left: most - 1,
+            used,
+        },
+    }
+}
+
+// The records after the next one.
+pub fn next_plane(file: &[u8], table: &[u8], p: Planes) -> Planes
+    requires { ⌜ Stands (now file) (now table) p ⌝ }
+    ensures { λ r. ⌜ Follows (now (file .entry)) (now (table .entry)) p r ⌝ }
+{
+    let turn = p.rest;
+    planes_from(file, table, p.used, turn, p.left)
+}
+
+// The plane records of a tree that was read whole, `most` at the most.
+pub fn planes_in(file: &[u8], table: &[u8], used: usize, most: u64) -> Planes
+    requires { ⌜ Holds (now file) (now table) used ⌝ }
+    ensures { λ r. ⌜ Stands (now (file .entry)) (now (table .entry)) r × ((k : ℕ) → recordOf (now (file .entry)) (now (table .entry)) r k ≡ getD (take most (planeRecords (now (file .entry)) (entriesIn (now (table .entry)) used))) k emptyChannel) ⌝ }
+{
+    match planes_level(file, table, used) {
+        Found::Nothing => no_planes(),
+        Found::At(i) => {
+            let turn = children(table, used, Field::Is(ClxValue::Level(i)));
+            planes_from(file, table, used, turn, most)
+        }
+    }
+}

@@ -1,0 +1,3 @@
+pub mod Widths
+pub mod Thin
+pub mod InARow

@@ -1,0 +1,146 @@
+/* The proved ND2 reader, for C.
+ *
+ * Link with libcapi.a (`rt staticlib capi` writes target/staticlib/libcapi.a). Nothing is allocated and nothing is kept between calls: every
+ * buffer is lent by the caller, and a call may be made from any thread. A slice is a pointer and a length in bytes; an empty one may have any
+ * pointer that is not null. The buffers of one call may not overlap where one of them is written. All numbers in buffers are little-endian.
+ *
+ * Every call returns 0, or the number of the first refusal that holds (ND2_...). On a refusal samples and register keep every byte, and table,
+ * summary and channel records are all zero.
+ */
+#ifndef ND2_H
+#define ND2_H
+
+#include <stddef.h>
+#include <stdint.h>
+
+#ifdef __cplusplus
+extern "C" {
+#endif
+
+/* ---- why a file is turned away */
+
+enum {
+    ND2_ACCEPTED = 0,
+    ND2_FOREIGN = 1,      /* not an ND2 file */
+    ND2_LEGACY = 2,       /* an older, JPEG 2000 based ND2 file */
+    ND2_TAIL = 3,         /* no map locator at the end of the file */
+    ND2_CHUNK = 4,        /* a chunk is not where the map says, or leaves the file */
+    ND2_MAP = 5,          /* the map is cut, has no end mark, or more than 2,000,000 entries */
+    ND2_CUT = 6,          /* a tree is cut short */
+    ND2_KIND = 7,         /* a record of a tree has no known type */
+    ND2_PACKED = 8,       /* a tree has a packed record */
+    ND2_DEEP = 9,         /* a tree is over 64 levels deep */
+    ND2_LEVEL = 10,       /* a level states too many items, or is shorter than its head */
+    ND2_MISSING = 11,     /* a chunk or a value that is needed is absent */
+    ND2_COMPRESSION = 12, /* the planes are compressed */
+    ND2_BITS = 13,        /* samples are not of 8, 16 or 32 bits */
+    ND2_FRAME_SHAPE = 14, /* the sizes of a frame do not fit together */
+    ND2_LOOP_KIND = 15,   /* a loop is of a kind that is not read */
+    ND2_LOOP_COUNT = 16,  /* a loop has more than 1,000,000 values */
+    ND2_AXIS_TWICE = 17,  /* two loops run over one axis */
+    ND2_TABLE = 18,       /* the lent table has too few entries for a tree */
+    ND2_CHANNEL_ROW = 19, /* the lent row has fewer records than there are components */
+    ND2_SUMMARY = 20,     /* the summary is none that can be used, or is not of its layout */
+    ND2_INDEX = 21,       /* scene, t, c or z is not below its count */
+    ND2_CEILING = 22,     /* a plane has more than 2^32 bytes */
+    ND2_NO_FRAME = 23,    /* the map has no entry for the frame */
+    ND2_FRAME_SHORT = 24, /* the frame's data is too short */
+    ND2_BUFFER = 25       /* the lent samples or register are too short */
+};
+
+/* ---- layouts */
+
+enum {
+    ND2_SUMMARY_BYTES = 144,
+    ND2_CHANNEL_BYTES = 56,
+    ND2_ENTRY_BYTES = 48,
+    ND2_FRAME_BYTES = 24
+};
+
+/* the axes of loops */
+enum { ND2_AXIS_T = 0, ND2_AXIS_Z = 1, ND2_AXIS_P = 2 };
+
+typedef struct nd2_loop {
+    uint64_t axis;
+    uint64_t count;
+} nd2_loop;
+
+/* What opening a file tells of it. A little-endian machine may lend the address of this struct as the 144 bytes of a summary. */
+typedef struct nd2_summary {
+    nd2_loop loops[3];    /* outermost first; `depth` of them are used, the others are axis 0 and count 0 */
+    uint64_t depth;
+    uint64_t width;       /* samples of one component in a row */
+    uint64_t stride;      /* bytes from one row to the next */
+    uint64_t height;
+    uint64_t components;
+    uint64_t bits;        /* 8, 16 or 32 for each sample */
+    uint64_t map_start;   /* the map's data in the file */
+    uint64_t map_len;
+    uint64_t calibration; /* 0 nothing stated, 1 stated, 2 its tree is packed */
+    uint64_t z_class;     /* 0 no step, 1 used, 2 smaller than 1e-6, 3 larger than 1e3 */
+    float x;              /* micrometres per pixel, where calibration is 1 */
+    float y;
+    float z;              /* micrometres per focus step, where z_class is 1 */
+    uint32_t zero;
+} nd2_summary;
+
+/* One channel, 56 bytes. */
+typedef struct nd2_channel {
+    uint64_t named;       /* 1 where it has a name */
+    uint64_t name;        /* the name's position in the file, UTF-16 units of two bytes */
+    uint64_t units;       /* how many */
+    uint64_t colored;     /* 1 where it has a colour */
+    uint64_t red;
+    uint64_t green;
+    uint64_t blue;
+} nd2_channel;
+
+/* One record of a tree, 48 bytes of the entry table. Positions count from the start of the file. */
+typedef struct nd2_entry {
+    uint64_t kind;        /* the record's type */
+    uint64_t name;        /* the position of its name */
+    uint64_t units;       /* the name's UTF-16 units */
+    uint64_t value;       /* the position of its value; of a level, of its first child */
+    uint64_t size;        /* the value's bytes */
+    uint64_t parent;      /* its level's number in the table plus one, 0 for the outermost */
+} nd2_entry;
+
+/* One frame of the register, 24 bytes. */
+typedef struct nd2_frame {
+    uint32_t scene;
+    uint32_t t;
+    uint32_t z;
+    uint32_t state;       /* 0 in the map, 1 absent */
+    uint64_t offset;      /* what the map says, 0 if absent */
+} nd2_frame;
+
+/* ---- the calls */
+
+/* Opens a file and stores its summary (ND2_SUMMARY_BYTES; another length is 20). The table is working room, all zero afterwards: 48 bytes
+ * for each record of a tree, and 48 * (tree bytes / 2) always suffice; 18 says that it was too short. */
+uint32_t nd2_open(const uint8_t *file, size_t file_len, uint8_t *table, size_t table_len, uint8_t *summary, size_t summary_len);
+
+/* Writes width * height samples of component c at a point, row by row, bytes as in the file. Later bytes of the buffer are untouched. */
+uint32_t nd2_plane(const uint8_t *file, size_t file_len, const uint8_t *summary, size_t summary_len, uint64_t scene, uint64_t t, uint64_t c,
+                   uint64_t z, uint8_t *samples, size_t samples_len);
+
+/* Reads the tree of a chunk: one entry for each record, in file order, the rest of the table zero. A name includes its '!'. */
+uint32_t nd2_tree(const uint8_t *file, size_t file_len, const uint8_t *summary, size_t summary_len, const uint8_t *name, size_t name_len,
+                  uint8_t *table, size_t table_len);
+
+/* Writes one record for each component, surplus records zero. The table is working room, all zero afterwards. */
+uint32_t nd2_channels(const uint8_t *file, size_t file_len, const uint8_t *summary, size_t summary_len, uint8_t *table, size_t table_len,
+                      uint8_t *row, size_t row_len);
+
+/* Writes one record for each frame, in order. Later bytes of the buffer are untouched. */
+uint32_t nd2_register(const uint8_t *file, size_t file_len, const uint8_t *summary, size_t summary_len, uint8_t *buffer, size_t buffer_len);
+
+/* Opens a file and reads one plane of it. The table is working room, all zero afterwards. */
+uint32_t nd2_read_plane(const uint8_t *file, size_t file_len, uint8_t *table, size_t table_len, uint64_t scene, uint64_t t, uint64_t c,
+                        uint64_t z, uint8_t *samples, size_t samples_len);
+
+#ifdef __cplusplus
+}
+#endif
+
+#endif
