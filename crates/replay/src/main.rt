@@ -2,6 +2,7 @@
 // of the answer and a checksum of all that was lent for it. rust/replay writes the steps and, from the second implementation, what has to be
 // printed; rust/replay/src/step.rs says how a step is stored.
 use border::nd2_read_plane;
+use channels::channel;
 use cursor::le4;
 use cursor::le8;
 use format::Axis;
@@ -13,9 +14,10 @@ use open::open;
 use plane::plane;
 use register::register;
 use sum::fold_bytes;
+use sum::fold_channel;
 use sum::fold_summary;
 use tree_call::tree;
-ghost use Prim.Native.Nat.{_+_, _≤_};
+ghost use Prim.Native.Nat.{_+_, _^_, _≤_, _<_};
 ghost use lib.ListN.{length};
 
 mod sum; // checksums
@@ -39,13 +41,15 @@ const REGISTER: u64 = 7;
 
 const BORDER: u64 = 8;
 
+const CHANNELS: u64 = 9;
+
 // The most bytes that a file has, or that are lent as a table or as a buffer.
 const MOST: usize = 65_536;
 
 // What lent bytes hold before a call.
 const FILL: u8 = 0xA5;
 
-// One step: its kind, the bytes that follow it, the bytes that are lent as a table and as a buffer, and a point.
+// One step: its kind, the bytes that follow it, the bytes that are lent as a table and as a buffer (for channels: the records of the row), and a point.
 struct Step {
     kind: u64,
     size: usize,
@@ -182,6 +186,28 @@ fn ask_border(file: &[u8], q: Step, table: &mut [u8], buffer: &mut [u8]) {
     show(b"border ", n, fold_bytes(fold_bytes(0, table), buffer));
 }
 
+// The records of a row, one after the other, each with the call's number.
+fn fold_row(file: &[u8], u: Summary, table: &mut [u8], row: usize) -> u64
+    ensures { λ r. ⌜ r < 2 ^ 32 ⌝ }
+{
+    let mut sum = 0;
+    let mut i = 0;
+    while i < row {
+        fill(table);
+        let one = channel(file, u, table, row, i);
+        let c = one.channel;
+        sum = fold_channel(sum, one.number, c);
+        i += 1;
+    }
+    sum
+}
+
+fn ask_channels(file: &[u8], u: Summary, table: &mut [u8], row: usize) {
+    let one = channel(file, u, table, row, 0);
+    let sum = fold_row(file, u, table, row);
+    show(b"channels ", one.number, fold_bytes(sum, table));
+}
+
 // The question of a step, over what is lent to it. The summary afterwards is the one that opening gave, if that was asked.
 fn ask(
     file: &[u8],
@@ -208,6 +234,10 @@ fn ask(
     }
     if q.kind == BORDER {
         ask_border(file, q, table, buffer);
+        return u;
+    }
+    if q.kind == CHANNELS {
+        ask_channels(file, u, table, q.buffer);
         return u;
     }
     u

@@ -1,8 +1,9 @@
 //! What the second implementation answers: a line for each question, of the call's name, its number and a checksum of
-//! every lent byte afterwards, an opening's with the numbers of its summary before them.
+//! every lent byte afterwards. Before these come an opening's summary, and of channels each record of the row, with the
+//! call's number before it.
 
 use crate::step::{numbers, Step};
-use second::Summary;
+use second::{Channel, Summary};
 
 /// What lent bytes hold before a call.
 const FILL: u8 = 0xA5;
@@ -32,6 +33,12 @@ impl Sum {
         let calibration = [s.calibration, x, y, s.class, z];
         let all = numbers(s).into_iter().chain(calibration);
         all.for_each(|n| self.number(n));
+    }
+
+    fn channel(&mut self, number: u32, c: &Channel) {
+        let name = [number as u64, c.named, c.name, c.units];
+        let color = [c.colored, c.red, c.green, c.blue];
+        name.into_iter().chain(color).for_each(|n| self.number(n));
     }
 }
 
@@ -77,6 +84,7 @@ impl State {
             Step::Tree { name, table } => return Some(self.tree(name, *table)),
             Step::Register { buffer } => return Some(self.register(*buffer)),
             Step::Border { at, table, buffer } => return Some(self.border(*at, *table, *buffer)),
+            Step::Channels { table, row } => return Some(self.channels(*table, *row)),
         }
         None
     }
@@ -120,5 +128,24 @@ impl State {
         let [scene, t, c, z] = at;
         let number = second::read_plane(&self.file, &mut table, scene, t, c, z, &mut samples);
         Answer::new("border", number, &[&table, &samples])
+    }
+
+    fn channels(&self, table: usize, row: usize) -> Answer {
+        let mut table = lent(table);
+        let filled = Channel {
+            named: 9,
+            blue: 9,
+            ..Channel::default()
+        };
+        let mut row = vec![filled; row];
+        let number = second::channels(&self.file, &self.summary, &mut table, &mut row);
+        let mut sum = Sum::default();
+        row.iter().for_each(|c| sum.channel(number, c));
+        sum.bytes(&table);
+        Answer {
+            call: "channels",
+            number,
+            sum,
+        }
     }
 }

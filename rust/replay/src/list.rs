@@ -6,14 +6,16 @@ use crate::step::Step;
 use sample::parts::{self, Sizes};
 use sample::{Nd2, Roller};
 use second::Summary;
-use std::collections::BTreeSet;
+use std::collections::{BTreeMap, BTreeSet};
 
 /// So many random files are taken as they come, from seed 1 on.
-const FILES: usize = 200;
+const FILES: usize = 250;
+/// Of these, so many at the most that opening refuses with one number.
+const MOST_ALIKE: usize = 12;
 /// Of the files up to this seed, each is taken that gives a number in a call which no file before it gave.
 const LAST_SEED: u64 = 20_000;
 /// Larger files are not taken as they come, and larger ones not at all.
-const MOST_COMMON: usize = 1_400;
+const MOST_COMMON: usize = 1_100;
 const MOST_FILE: usize = 4_000;
 
 /// All steps, in order.
@@ -34,6 +36,7 @@ pub fn given(steps: &[Step]) -> BTreeSet<(&'static str, u32)> {
 fn random_files() -> Vec<Step> {
     let mut all = Vec::new();
     let mut seen = BTreeSet::new();
+    let mut alike = BTreeMap::new();
     let mut files = 0;
     for seed in 1..=LAST_SEED {
         let file = sample::random::file(seed);
@@ -41,12 +44,15 @@ fn random_files() -> Vec<Step> {
         if len > MOST_FILE {
             continue;
         }
+        let refused = second::calls::opened(&file, usize::MAX).err();
         let Some(steps) = random(seed, file) else {
             continue;
         };
+        let before = alike.entry(refused).or_insert(0);
+        let few = refused.is_none() || *before < MOST_ALIKE;
         let given = given(&steps);
-        let common = files < FILES && len <= MOST_COMMON;
-        if common || !given.is_subset(&seen) {
+        if files < FILES && len <= MOST_COMMON && few || !given.is_subset(&seen) {
+            *before += 1;
             seen.extend(given);
             all.extend(steps);
             files += 1;

@@ -14,62 +14,79 @@ mod questions;
 mod step;
 
 use answer::State;
-use second::refusal::{BUFFER, CHANNEL_ROW};
+use second::refusal::BUFFER;
 use std::collections::BTreeSet;
 use std::path::PathBuf;
 use std::process::ExitCode;
 use std::{fs, io};
 use step::Step;
 
-/// A file of the repository and what it has to hold.
-type Stored = (PathBuf, Vec<u8>);
+/// What is stored: the steps, and the lines that they print.
+struct Stored {
+    cases: Vec<u8>,
+    stdout: String,
+}
 
-/// The steps, and the lines that they print.
-fn stored(steps: &[Step]) -> [Stored; 2] {
-    let mut cases = Vec::new();
+/// The folder of the Rattle program.
+fn folder() -> PathBuf {
+    PathBuf::from(env!("CARGO_MANIFEST_DIR")).join("../../crates/replay")
+}
+
+/// The lines that steps print, by the second implementation.
+fn lines(steps: &[Step]) -> String {
     let mut text = String::new();
     let mut state = State::default();
     for step in steps {
-        step.write(&mut cases);
         let line = match step {
             Step::Label(label) => Some(label.clone()),
             _ => state.take(step).map(|answer| answer.line()),
         };
         text.extend(line.map(|line| line + "\n"));
     }
-    let folder = PathBuf::from(env!("CARGO_MANIFEST_DIR")).join("../../crates/replay");
-    [
-        (folder.join("data/cases"), cases),
-        (folder.join("stdout"), text.into_bytes()),
-    ]
+    text
 }
 
-/// The numbers that no call gives, of those that one of the calls asked can give. Only channels refuse with 19.
+impl Stored {
+    fn new(steps: &[Step]) -> Stored {
+        let mut cases = Vec::new();
+        steps.iter().for_each(|step| step.write(&mut cases));
+        let stdout = lines(steps);
+        Stored { cases, stdout }
+    }
+
+    fn read() -> io::Result<Stored> {
+        Ok(Stored {
+            cases: fs::read(folder().join("data/cases"))?,
+            stdout: fs::read_to_string(folder().join("stdout"))?,
+        })
+    }
+
+    fn write(&self) -> io::Result<()> {
+        fs::create_dir_all(folder().join("data"))?;
+        fs::write(folder().join("data/cases"), &self.cases)?;
+        fs::write(folder().join("stdout"), &self.stdout)?;
+        let lengths = (self.cases.len(), self.stdout.len());
+        println!("cases: {} bytes, stdout: {} bytes", lengths.0, lengths.1);
+        Ok(())
+    }
+}
+
+/// The numbers of document 01, and 0, that no call gives.
 fn missing(steps: &[Step]) -> Vec<u32> {
     let given: BTreeSet<u32> = list::given(steps).into_iter().map(|(_, n)| n).collect();
-    let all = (0..=BUFFER).filter(|&n| n != CHANNEL_ROW);
-    all.filter(|n| !given.contains(n)).collect()
+    (0..=BUFFER).filter(|n| !given.contains(n)).collect()
 }
 
-fn write(stored: &[Stored]) -> io::Result<()> {
-    for (path, bytes) in stored {
-        path.parent().map_or(Ok(()), fs::create_dir_all)?;
-        fs::write(path, bytes)?;
-        println!("{}: {} bytes", path.display(), bytes.len());
+/// What is wrong with a stored list, whose steps would be `steps` if it were written now.
+fn fault(stored: &Stored, steps: &[Step]) -> Option<&'static str> {
+    let Some(read) = step::read(&stored.cases) else {
+        return Some("data/cases is no list");
+    };
+    if lines(&read) != stored.stdout {
+        return Some("stdout has other answers than the second implementation's to data/cases");
     }
-    Ok(())
-}
-
-/// Says of each file that does not hold what it has to.
-fn check(stored: &[Stored]) -> io::Result<()> {
-    for (path, bytes) in stored {
-        if fs::read(path)? != *bytes {
-            let told = format!("{} is not what would be written", path.display());
-            return Err(io::Error::other(told));
-        }
-    }
-    println!("the list is what would be written");
-    Ok(())
+    let now = Stored::new(steps);
+    (now.cases != stored.cases).then_some("data/cases is not what would be written")
 }
 
 fn run() -> io::Result<()> {
@@ -78,10 +95,15 @@ fn run() -> io::Result<()> {
     if !missing.is_empty() {
         return Err(io::Error::other(format!("no answer is {missing:?}")));
     }
-    let stored = stored(&steps);
     match std::env::args().nth(1).as_deref() {
-        None => write(&stored),
-        Some("--check") => check(&stored),
+        None => Stored::new(&steps).write(),
+        Some("--check") => match fault(&Stored::read()?, &steps) {
+            Some(fault) => Err(io::Error::other(fault)),
+            None => {
+                println!("the list is what would be written");
+                Ok(())
+            }
+        },
         Some(other) => Err(io::Error::other(format!("{other} is no option"))),
     }
 }
@@ -93,5 +115,46 @@ fn main() -> ExitCode {
             eprintln!("{error}");
             ExitCode::FAILURE
         }
+    }
+}
+
+#[cfg(test)]
+mod tests {
+    use super::*;
+
+    /// The stored list is the one that would be written, and has every number.
+    #[test]
+    fn stored() {
+        let steps = list::steps();
+        assert_eq!(missing(&steps), []);
+        assert_eq!(fault(&Stored::read().unwrap(), &steps), None);
+    }
+
+    /// A plane at the ceiling is not refused for it, and one column more is.
+    #[test]
+    fn ceiling() {
+        let text = lines(&list::steps());
+        let after = |label: &str| text.split(label).nth(1).and_then(|t| t.lines().nth(1));
+        assert!(after("65,536 by 65,536 bytes passes").is_some_and(|l| l.starts_with("plane 24 ")));
+        assert!(
+            after("65,537 by 65,536 bytes gives 22").is_some_and(|l| l.starts_with("plane 22 "))
+        );
+    }
+
+    /// A list with one other number in it, or one other line, is found out.
+    #[test]
+    fn changes() {
+        let steps = list::steps();
+        let other = |change: fn(&mut Stored)| {
+            let mut stored = Stored::new(&steps);
+            change(&mut stored);
+            fault(&stored, &steps).is_some()
+        };
+        assert!(!other(|_| {}));
+        assert!(other(|s| s.cases[0] ^= 1));
+        assert!(other(|s| *s.cases.last_mut().unwrap() ^= 1));
+        assert!(other(
+            |s| s.stdout = s.stdout.replacen("plane 22", "plane 24", 1)
+        ));
     }
 }

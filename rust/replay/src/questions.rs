@@ -5,15 +5,23 @@ use compare::plan::{Plan, TREES};
 use sample::Rng;
 use second::refusal::TABLE;
 use second::trees::ENTRY_BYTES;
-use second::Summary;
+use second::{Channel, Summary};
 
 /// Buffers of more bytes than this are asked with few.
 const MOST_BUFFER: u128 = 8_192;
 const FEW: usize = 24;
+/// Rows of more records are asked with two.
+const MOST_ROW: usize = 8;
+/// The bytes of a table that nothing is written to.
+const UNUSED: usize = 53;
 
-/// The fewest entries of a table with which a call does not refuse for it.
+/// The bytes of a table that has just the entries with which a call does not refuse for it. Where it needs none, the
+/// table is one to be cleared all the same.
 fn least(number: impl Fn(usize) -> u32) -> usize {
-    (0..).find(|&room| number(room) != TABLE).unwrap_or(0)
+    match (0..).find(|&room| number(room) != TABLE) {
+        Some(room) if room > 0 => ENTRY_BYTES * room,
+        _ => UNUSED,
+    }
 }
 
 fn for_open(file: &[u8]) -> usize {
@@ -22,15 +30,20 @@ fn for_open(file: &[u8]) -> usize {
 }
 
 fn for_tree(file: &[u8], summary: &Summary, name: &[u8]) -> usize {
-    let call = |room| second::tree(file, summary, name, &mut vec![0; ENTRY_BYTES * room]);
-    least(call)
+    least(|room| second::tree(file, summary, name, &mut vec![0; ENTRY_BYTES * room]))
+}
+
+fn for_channels(file: &[u8], summary: &Summary, row: usize) -> usize {
+    let row = vec![Channel::default(); row];
+    let table = |room| vec![0; ENTRY_BYTES * room];
+    least(|room| second::channels(file, summary, &mut table(room), &mut row.clone()))
 }
 
 /// A label and a file, opened with a table that is just large enough, or one byte short of it.
 fn opened(label: &str, file: Vec<u8>, spare: usize) -> Vec<Step> {
-    let enough = ENTRY_BYTES * for_open(&file);
+    let enough = for_open(&file);
     let mut steps = vec![Step::Label(label.to_string()), Step::File(file)];
-    if enough > 0 {
+    if enough != UNUSED {
         steps.push(Step::Open { table: enough - 1 });
     }
     steps.push(Step::Open {
@@ -52,22 +65,32 @@ pub fn random(seed: u64, file: Vec<u8>) -> Option<Vec<Step>> {
     if plan.table > MOST_BYTES {
         return None;
     }
+    let label = format!("the file of seed {seed}");
+    let mut steps = opened(&label, file.clone(), plan.spare);
+    steps.push(border(rng, &file, &plan));
     if let Ok(map) = second::map::place(&file) {
         plan.map_at(map);
+        steps.extend(with_map(rng, &file, &plan));
     }
-    let mut steps = opened(
-        &format!("the file of seed {seed}"),
-        file.clone(),
-        plan.spare,
-    );
+    steps.extend(wild(rng, &plan));
+    Some(steps)
+}
+
+/// The calls that take a summary: the opening's, or one that only serves to ask, and then one that no opening gave.
+fn with_map(rng: &mut Rng, file: &[u8], plan: &Plan) -> Vec<Step> {
+    let mut steps = Vec::new();
     if !plan.opened {
         steps.push(Step::Summary(plan.summary));
     }
-    steps.extend(planes(&file, &plan));
-    steps.extend(trees(rng, &file, &plan));
+    steps.extend(planes(plan));
+    steps.extend(trees(rng, file, plan));
+    steps.extend(channels(rng, file, plan));
     steps.extend(registers(&plan.summary, plan.spare));
-    steps.extend(strange(rng, &plan));
-    Some(steps)
+    for &summary in &plan.strange {
+        steps.push(Step::Summary(summary));
+        steps.extend(any(summary));
+    }
+    steps
 }
 
 /// As many bytes as an answer has, where these are few.
@@ -77,47 +100,83 @@ fn needed(bytes: Option<u128>) -> usize {
         .map_or(FEW, |n| n as usize)
 }
 
-/// Planes with a buffer that is long, just enough and one byte short, and one that is out of range; two by the border.
-fn planes(file: &[u8], plan: &Plan) -> Vec<Step> {
+/// Planes with a buffer that is long, just enough and one byte short, and one that is out of range.
+fn planes(plan: &Plan) -> Vec<Step> {
     let enough = needed(plan.summary.attributes().plane_bytes());
     let buffers = [enough + plan.spare, enough, enough - 1, enough + 7];
-    let asked = plan.planes.iter().zip(buffers);
-    let mut steps: Vec<Step> = asked
+    let first = [[0; 4]];
+    let planes = if plan.opened {
+        &plan.planes[..]
+    } else {
+        &first
+    };
+    let asked = planes.iter().zip(buffers);
+    asked
         .map(|(&at, buffer)| Step::Plane { at, buffer })
-        .collect();
-    let table = ENTRY_BYTES * for_open(file);
-    let at = plan.planes.get(1).copied().unwrap_or_default();
-    steps.push(Step::Border {
+        .collect()
+}
+
+/// A plane by the border, with a table and a buffer that may be just too short.
+fn border(rng: &mut Rng, file: &[u8], plan: &Plan) -> Step {
+    let enough = needed(plan.summary.attributes().plane_bytes());
+    let short = rng.one_in(4) as usize;
+    let at = match plan.planes.len() {
+        0 => [0; 4],
+        n => plan.planes[rng.place(n)],
+    };
+    Step::Border {
         at,
-        table,
-        buffer: enough,
-    });
-    if table > 0 && plan.opened {
-        steps.push(Step::Border {
-            at,
-            table: table - 1,
-            buffer: enough,
-        });
+        table: for_open(file) - short,
+        buffer: rng.pick(&[enough, enough, enough - 1, enough + plan.spare]),
     }
-    steps
 }
 
 /// Two trees, with a table that is just enough, or long, and with one that has a byte less.
 fn trees(rng: &mut Rng, file: &[u8], plan: &Plan) -> Vec<Step> {
     let mut steps = Vec::new();
     for spare in [0, 60] {
-        let name = rng.pick(&TREES).as_bytes().to_vec();
-        let enough = ENTRY_BYTES * for_tree(file, &plan.summary, &name);
+        let name = tree_name(rng);
+        let enough = for_tree(file, &plan.summary, &name);
         steps.push(Step::Tree {
             name: name.clone(),
             table: enough + spare,
         });
-        if enough > 0 && spare == 0 {
+        if enough != UNUSED && spare == 0 {
             steps.push(Step::Tree {
                 name,
                 table: enough - 1,
             });
         }
+    }
+    steps
+}
+
+/// The usual names, and now and then a frame's, one without its mark, or none at all.
+fn tree_name(rng: &mut Rng) -> Vec<u8> {
+    let odd = ["ImageDataSeq|0!", "ImageAttributesLV", ""];
+    let name = if rng.one_in(8) {
+        rng.pick(&odd)
+    } else {
+        rng.pick(&TREES)
+    };
+    name.as_bytes().to_vec()
+}
+
+/// Channels with a row that is long or just enough, and with a row or a table that is too short.
+fn channels(rng: &mut Rng, file: &[u8], plan: &Plan) -> Vec<Step> {
+    let components = plan.summary.components as usize;
+    if components > MOST_ROW {
+        return vec![Step::Channels { table: 0, row: 2 }];
+    }
+    let table = for_channels(file, &plan.summary, components);
+    let row = components + rng.pick(&[0, 2]);
+    let mut steps = vec![Step::Channels { table, row }];
+    if rng.one_in(2) || table == UNUSED {
+        let row = components - 1;
+        steps.push(Step::Channels { table, row });
+    } else {
+        let table = table - 1;
+        steps.push(Step::Channels { table, row });
     }
     steps
 }
@@ -129,27 +188,34 @@ fn registers(summary: &Summary, spare: usize) -> Vec<Step> {
     buffers.map(|buffer| Step::Register { buffer }).to_vec()
 }
 
-/// The calls that take a summary, with one that no opening of the file gave, and one of them with a summary that is refused.
-fn strange(rng: &mut Rng, plan: &Plan) -> Vec<Step> {
-    let at = [0; 4];
-    let tree = |name: &str| Step::Tree {
-        name: name.as_bytes().to_vec(),
-        table: 10 * ENTRY_BYTES,
+/// Each call that takes a summary, of which nothing is known.
+fn any(summary: Summary) -> [Step; 4] {
+    [
+        Step::Plane {
+            at: [0; 4],
+            buffer: 200,
+        },
+        Step::Tree {
+            name: TREES[1].as_bytes().to_vec(),
+            table: 10 * ENTRY_BYTES,
+        },
+        Step::Channels {
+            table: 20 * ENTRY_BYTES,
+            row: summary.components.min(2) as usize,
+        },
+        Step::Register { buffer: 24 * 30 },
+    ]
+}
+
+/// One of these with a summary that is refused.
+fn wild(rng: &mut Rng, plan: &Plan) -> Vec<Step> {
+    let Some(&summary) = plan.wild.first() else {
+        return Vec::new();
     };
-    let plane = Step::Plane { at, buffer: 200 };
-    let register = Step::Register { buffer: 24 * 30 };
-    let mut steps = Vec::new();
-    for &summary in &plan.strange {
-        steps.push(Step::Summary(summary));
-        steps.extend([plane.clone(), tree(TREES[1]), register.clone()]);
-    }
-    if let Some(&summary) = plan.wild.first() {
-        steps.push(Step::Summary(summary));
-        steps.push(match rng.below(3) {
-            0 => plane,
-            1 => tree(TREES[0]),
-            _ => register,
-        });
-    }
-    steps
+    let one = rng.pick(&[0, 1, 2, 3]);
+    let call = any(summary).into_iter().nth(one);
+    [Some(Step::Summary(summary)), call]
+        .into_iter()
+        .flatten()
+        .collect()
 }
