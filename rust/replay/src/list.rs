@@ -1,15 +1,16 @@
 //! Which files are in the list, and what is asked about them.
 
 use crate::answer::State;
-use crate::questions::{about, random};
+use crate::questions::{about, all};
+use crate::rules;
 use crate::step::Step;
 use sample::parts::{self, Sizes};
 use sample::{Nd2, Roller};
-use second::Summary;
+use second::{Axis, Loop, Summary};
 use std::collections::{BTreeMap, BTreeSet};
 
 /// So many random files are taken as they come, from seed 1 on.
-const FILES: usize = 250;
+const FILES: usize = 200;
 /// Of these, so many at the most that opening refuses with one number.
 const MOST_ALIKE: usize = 12;
 /// Of the files up to this seed, each is taken that gives a number in a call which no file before it gave.
@@ -20,7 +21,9 @@ const MOST_FILE: usize = 4_000;
 
 /// All steps, in order.
 pub fn steps() -> Vec<Step> {
-    let mut steps = edges();
+    let mut steps = ceiling();
+    steps.extend(four_loops());
+    steps.extend(ruled());
     steps.extend(rollers());
     steps.extend(random_files());
     steps
@@ -34,7 +37,7 @@ pub fn given(steps: &[Step]) -> BTreeSet<(&'static str, u32)> {
 }
 
 fn random_files() -> Vec<Step> {
-    let mut all = Vec::new();
+    let mut taken = Vec::new();
     let mut seen = BTreeSet::new();
     let mut alike = BTreeMap::new();
     let mut files = 0;
@@ -45,7 +48,7 @@ fn random_files() -> Vec<Step> {
             continue;
         }
         let refused = second::calls::opened(&file, usize::MAX).err();
-        let Some(steps) = random(seed, file) else {
+        let Some(steps) = all(&format!("the file of seed {seed}"), seed, file) else {
             continue;
         };
         let before = alike.entry(refused).or_insert(0);
@@ -54,11 +57,11 @@ fn random_files() -> Vec<Step> {
         if files < FILES && len <= MOST_COMMON && few || !given.is_subset(&seen) {
             *before += 1;
             seen.extend(given);
-            all.extend(steps);
+            taken.extend(steps);
             files += 1;
         }
     }
-    all
+    taken
 }
 
 fn roller(points: u32, steps: u32, lamps: u32) -> Roller {
@@ -102,18 +105,27 @@ fn every_plane(label: &str, roller: Roller) -> Vec<Step> {
     steps
 }
 
-/// Document 01's edges that are run.
-fn edges() -> Vec<Step> {
-    let mut steps = ceiling();
-    for (label, step) in [
-        ("z 1000 is class 1", 1000.0),
-        ("z 1000.0001 is class 3", 1000.0001),
-    ] {
-        let roller = Roller {
-            step,
-            ..roller(1, 2, 1)
-        };
-        steps.extend(about(label, roller.file()));
+/// The files of single rules.
+fn ruled() -> Vec<Step> {
+    let rules = rules::all().into_iter().zip(1..);
+    let asked = rules.filter_map(|((label, file), seed)| all(label, seed, file));
+    asked.flatten().collect()
+}
+
+/// A summary of three loops in order, and the same with a fourth said.
+fn four_loops() -> Vec<Step> {
+    let file = roller(2, 2, 1).file();
+    let mut summary = second::calls::opened(&file, usize::MAX).unwrap_or_default();
+    summary.loops[2] = Loop {
+        axis: Axis::T,
+        count: 1,
+    };
+    let mut steps = about("a roller of two loops", file);
+    for (label, depth) in [("three loops", 3), ("four loops", 4)] {
+        summary.depth = depth;
+        let buffer = 24 * 4;
+        steps.push(Step::Label(label.to_string()));
+        steps.extend([Step::Summary(summary), Step::Register { buffer }]);
     }
     steps
 }

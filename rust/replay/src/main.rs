@@ -4,13 +4,14 @@
 //!     cargo run --offline --release -p replay             writes crates/replay/data/cases and crates/replay/stdout
 //!     cargo run --offline --release -p replay -- --check  says whether these are what would be written
 //!
-//! The list is made from seeds alone, so it is the same in every run: document 01's edges, small rollers with all their
-//! planes, and random files, good and damaged (`list` says which, `questions` what is asked about them, `step` how it
-//! is stored). A change of `sample` or of `compare`'s plans changes it: write it anew.
+//! The list is made from seeds alone, so it is the same in every run: document 01's edges, files of single rules, small
+//! rollers with all their planes, and random files, good and damaged (`list` and `rules` say which, `questions` what is
+//! asked about them, `step` how it is stored). A change of `sample` or of `compare`'s plans changes it: write it anew.
 
 mod answer;
 mod list;
 mod questions;
+mod rules;
 mod step;
 
 use answer::State;

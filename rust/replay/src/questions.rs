@@ -57,16 +57,15 @@ pub fn about(label: &str, file: Vec<u8>) -> Vec<Step> {
     opened(label, file, 0)
 }
 
-/// The questions about the random file of a seed; none where a table would be too large.
-pub fn random(seed: u64, file: Vec<u8>) -> Option<Vec<Step>> {
+/// The questions about a file, as a seed picks them; none where a table would be too large.
+pub fn all(label: &str, seed: u64, file: Vec<u8>) -> Option<Vec<Step>> {
     let open = second::calls::opened(&file, usize::MAX);
     let rng = &mut Rng::new(!seed);
     let mut plan = Plan::new(rng, &file, &open);
     if plan.table > MOST_BYTES {
         return None;
     }
-    let label = format!("the file of seed {seed}");
-    let mut steps = opened(&label, file.clone(), plan.spare);
+    let mut steps = opened(label, file.clone(), plan.spare);
     steps.push(border(rng, &file, &plan));
     if let Ok(map) = second::map::place(&file) {
         plan.map_at(map);
