@@ -307,8 +307,21 @@ fn map() -> Vec<Rule> {
     let mut sizes = file();
     sizes.entries.iter_mut().for_each(|entry| entry.size = 1);
     vec![
+        ("a frame's data to the file's end", reaching(file(), 0)),
+        ("a frame's data past the file's end", reaching(file(), 1)),
         ("a frame twice in the map: the last one", repeated.finish()),
         ("a frame's number with a zero in front", leading.finish()),
         ("wrong sizes in the map", sizes.finish()),
     ]
+}
+
+/// The file with the first frame's chunk reaching so many bytes past the file's end.
+fn reaching(file: Nd2, past: usize) -> Vec<u8> {
+    let entry = &file.entries[2];
+    let header = entry.offset as usize;
+    let data = header + 16 + entry.name.len();
+    let mut bytes = file.finish();
+    let len = (bytes.len() - data + past) as u64;
+    bytes[header + 8..header + 16].copy_from_slice(&len.to_le_bytes());
+    bytes
 }
