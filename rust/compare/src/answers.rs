@@ -1,7 +1,7 @@
 //! What a reader answers about one file, with every lent byte.
 
-use crate::plan::{Plan, MOST_FRAMES, TREES};
 use crate::reader::Reader;
+use plan::{Plan, MOST_FRAMES, TREES};
 use second::trees::ENTRY_BYTES;
 use second::{Channel, Summary};
 

@@ -3,9 +3,9 @@
 use crate::answers::{Answers, Lent};
 use crate::numbers::number;
 use crate::original::{Answer, ChannelTold, Opened, Told};
-use crate::plan::{Plan, MOST_FRAMES, TREES};
 use crate::table;
 use crate::wire::Out;
+use plan::{Plan, MOST_FRAMES, TREES};
 use second::names::{scalars, units_at};
 use second::refusal::{BUFFER, CHANNEL_ROW, MAP, PACKED, SUMMARY, TABLE};
 use second::trees::{written, ENTRY_BYTES};

@@ -18,7 +18,6 @@ mod tally;
 #[path = "../driver/wire.rs"]
 mod wire;
 
-use compare::plan;
 use original::Original;
 use run::{Case, Run};
 use std::io;

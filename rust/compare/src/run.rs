@@ -3,9 +3,9 @@
 use crate::answers::{asked, Answers, Scratch};
 use crate::check::{Check, Findings, Listed};
 use crate::original::{Answer, Original, Question};
-use crate::plan::{Plan, MOST_FRAMES};
 use crate::reader::{readers, Reader};
 use crate::tally::Tally;
+use plan::{Plan, MOST_FRAMES};
 use sample::Rng;
 use second::{Axis, Summary};
 use std::io;

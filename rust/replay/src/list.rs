@@ -153,7 +153,8 @@ fn ceiling() -> Vec<Step> {
             Step::Plane { at, buffer: 16 },
         ]
     };
-    let mut steps = about("a file of one sample", file.clone());
+    let mut steps = about("a file of one sample", file);
+    steps.push(Step::Plane { at, buffer: 1 });
     steps.extend(asked(
         "65,536 by 65,536 bytes passes: the frame is short, 24",
         65_536,

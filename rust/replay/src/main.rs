@@ -6,7 +6,7 @@
 //!
 //! The list is made from seeds alone, so it is the same in every run: document 01's edges, files of single rules, small
 //! rollers with all their planes, and random files, good and damaged (`list` and `rules` say which, `questions` what is
-//! asked about them, `step` how it is stored). A change of `sample` or of `compare`'s plans changes it: write it anew.
+//! asked about them, `step` how it is stored). A change of `sample` or of `plan` changes it: write it anew.
 
 mod answer;
 mod list;

@@ -1,7 +1,7 @@
 //! The questions about one file.
 
 use crate::step::{Step, MOST_BYTES};
-use compare::plan::{Plan, TREES};
+use plan::{Plan, TREES};
 use sample::Rng;
 use second::refusal::TABLE;
 use second::trees::ENTRY_BYTES;
