@@ -1,0 +1,91 @@
+//! Holds readers against the original on random files.
+//!
+//!     compare ORIGINAL_FOLDER [--files N] [--seed S] [--corners]
+//!
+//! ORIGINAL_FOLDER has the original's nd2_reader.rs, calibration.rs, types.rs and guard.rs. File i of a run is the one
+//! of seed S + i; with --corners, files at the limits come before them, which take time and memory. Differences that
+//! docs/DIFFERENCES.md lists are counted; any other is printed with its seed, its file is saved, and the exit status
+//! is 1.
+
+mod answers;
+mod check;
+mod numbers;
+mod original;
+mod plan;
+
+mod reader;
+mod run;
+mod table;
+mod tally;
+#[path = "../driver/wire.rs"]
+mod wire;
+
+use original::Original;
+use run::{Case, Run};
+use std::io;
+use std::path::{Path, PathBuf};
+use std::process::ExitCode;
+use tally::Tally;
+
+struct Options {
+    original: PathBuf,
+    files: u64,
+    seed: u64,
+    corners: bool,
+}
+
+fn options() -> Option<Options> {
+    let mut arguments = std::env::args().skip(1);
+    let mut options = Options {
+        original: PathBuf::from(arguments.next()?),
+        files: 20_000,
+        seed: 1,
+        corners: false,
+    };
+    while let Some(argument) = arguments.next() {
+        let mut value = || arguments.next()?.parse().ok();
+        match argument.as_str() {
+            "--files" => options.files = value()?,
+            "--seed" => options.seed = value()?,
+            "--corners" => options.corners = true,
+            _ => return None,
+        }
+    }
+    Some(options)
+}
+
+/// Builds the original in `folder` and compares all files.
+fn compared(options: &Options, folder: &Path) -> io::Result<Tally> {
+    let program = original::build(&options.original, folder)?;
+    let mut run = Run::new(Original::start(&program)?);
+    if options.corners {
+        for (name, write) in sample::corner::ALL {
+            println!("{name}");
+            run.case(&Case::corner(name, write()))?;
+        }
+    }
+    for seed in options.seed..options.seed + options.files {
+        run.case(&Case::seeded(seed))?;
+    }
+    Ok(run.tally)
+}
+
+fn main() -> ExitCode {
+    let Some(options) = options() else {
+        eprintln!("compare ORIGINAL_FOLDER [--files N] [--seed S] [--corners]");
+        return ExitCode::from(2);
+    };
+    let folder = std::env::temp_dir().join(format!("compare-original-{}", std::process::id()));
+    let tally = compared(&options, &folder);
+    let _ = std::fs::remove_dir_all(&folder);
+    match tally {
+        Ok(tally) => {
+            tally.print();
+            ExitCode::from((tally.unlisted > 0) as u8)
+        }
+        Err(error) => {
+            eprintln!("{error}");
+            ExitCode::from(2)
+        }
+    }
+}

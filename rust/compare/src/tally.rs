@@ -1,0 +1,120 @@
+//! How many files gave which number in which call.
+
+use crate::answers::{Answers, Strange};
+use crate::check::Listed;
+use crate::numbers::WORDS;
+use std::collections::BTreeMap;
+
+const CALLS: [&str; 6] = ["open", "plane", "border", "tree", "channels", "register"];
+
+#[derive(Default)]
+pub struct Tally {
+    pub files: u64,
+    pub planes: u64,
+    pub trees: u64,
+    pub unlisted: u64,
+    pub unasked: u64,
+    listed: BTreeMap<Listed, u64>,
+    hits: [[u64; 6]; 26],
+}
+
+impl Tally {
+    /// Counts each number once for a file and a call.
+    pub fn count(&mut self, answers: &Answers) {
+        self.files += 1;
+        self.planes += answers.planes.iter().filter(|p| p.number == 0).count() as u64;
+        self.trees += answers.trees.iter().filter(|t| t.number == 0).count() as u64;
+        for (call, numbers) in numbers(answers).into_iter().enumerate() {
+            let mut seen = [false; 26];
+            for number in numbers {
+                seen[(number as usize).min(25)] = true;
+            }
+            for (number, _) in seen.iter().enumerate().filter(|(_, s)| **s) {
+                self.hits[number][call] += 1;
+            }
+        }
+    }
+
+    /// Counts each listed difference once for a file.
+    pub fn listed(&mut self, found: &mut Vec<Listed>) {
+        found.sort();
+        found.dedup();
+        for one in found {
+            *self.listed.entry(*one).or_default() += 1;
+        }
+    }
+
+    /// The numbers that no file gave.
+    pub fn missing(&self) -> Vec<usize> {
+        let given = |number: &usize| self.hits[*number].iter().any(|&n| n > 0);
+        (1..26).filter(|number| !given(number)).collect()
+    }
+
+    pub fn print(&self) {
+        println!("files by number and call:");
+        let heads: Vec<String> = CALLS.iter().map(|call| format!("{call:>9}")).collect();
+        println!("{:>2} {:<12}{}", "", "", heads.concat());
+        for (number, calls) in self.hits.iter().enumerate() {
+            let word = number.checked_sub(1).map_or("accepted", |i| WORDS[i]);
+            let counts: Vec<String> = calls.iter().map(|n| format!("{n:>9}")).collect();
+            println!("{number:>2} {word:<12}{}", counts.concat());
+        }
+        for one in Listed::ALL {
+            let count = self.listed.get(&one).copied().unwrap_or(0);
+            println!("listed difference '{}': {count} files", one.name());
+        }
+        println!(
+            "not asked of the original, many scenes: {} files",
+            self.unasked
+        );
+        let missing = self.missing();
+        if !missing.is_empty() {
+            println!("numbers that no file gave: {missing:?}");
+        }
+        println!(
+            "{} files, {} planes, {} trees, {} unlisted differences",
+            self.files, self.planes, self.trees, self.unlisted
+        );
+    }
+}
+
+/// The numbers of each call, in the order of `CALLS`.
+fn numbers(a: &Answers) -> [Vec<u32>; 6] {
+    let open = [a.open, a.small_open].into_iter().flatten();
+    let planes = a.planes.iter().map(|l| l.number);
+    let trees = a.trees.iter().chain(&a.small_trees).map(|l| l.number);
+    let channels = [
+        a.channels.as_ref().map(|row| row.number),
+        a.short_channels,
+        a.small_channels,
+    ];
+    let register = [a.register.as_ref().map(|l| l.number), a.short_register];
+    let wild = |call: usize| a.wild.iter().map(move |numbers| numbers[call]);
+    let short = a.short_planes.iter().copied();
+    let strange = |number: fn(&Strange) -> u32| a.strange.iter().map(number);
+    [
+        open.map(|o| o.err().unwrap_or(0)).collect(),
+        planes
+            .chain(short)
+            .chain(wild(0))
+            .chain(strange(|s| s.plane.number))
+            .collect(),
+        a.borders.iter().map(|l| l.number).collect(),
+        trees
+            .chain(wild(1))
+            .chain(strange(|s| s.tree.number))
+            .collect(),
+        channels
+            .into_iter()
+            .flatten()
+            .chain(wild(2))
+            .chain(strange(|s| s.channels.number))
+            .collect(),
+        register
+            .into_iter()
+            .flatten()
+            .chain(wild(3))
+            .chain(strange(|s| s.register.number))
+            .collect(),
+    ]
+}

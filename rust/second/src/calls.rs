@@ -1,0 +1,232 @@
+//! "The calls". A refusal changes no byte of samples or register and zeroes table and channel records.
+
+use crate::attributes;
+use crate::bytes::{put_u32, put_u64, u32_at};
+use crate::calibration::{self, Calibration};
+use crate::channels::{self, Channel};
+use crate::chunks::{self, part, MARK};
+use crate::loops;
+use crate::map::{self, Map};
+use crate::refusal::*;
+use crate::summary::{Axis, Range, Summary};
+use crate::trees::{self, Entry};
+use crate::values::{self, Level};
+
+const LEGACY_MARK: u32 = 0x0C00_0000;
+const MOST_PLANE: u128 = 4_294_967_296;
+const PREFIX: u64 = 8;
+const RECORD_BYTES: usize = 24;
+
+/// The entries of the tree that the map has under a name: 11, the chunk's 4, the tree's own.
+fn named_tree(file: &[u8], map: &Map, name: &[u8], room: usize) -> Result<Vec<Entry>, u32> {
+    let offset = map.find(name).ok_or(MISSING)?;
+    let data = chunks::data(file, offset, b"")?;
+    trees::read(file, data, room)
+}
+
+fn named_root(file: &[u8], map: &Map, name: &[u8], room: usize) -> Result<Level, u32> {
+    let entries = named_tree(file, map, name, room)?;
+    Ok(values::root(file, &entries))
+}
+
+/// "Open: file, entry table." "The table is all zero afterwards."
+pub fn open(file: &[u8], table: &mut [u8]) -> Result<Summary, u32> {
+    table.fill(0);
+    opened(file, trees::room(table))
+}
+
+/// What opening gives with a table of `room` entries: "1 or 2, 3, map chunk, 5; attributes; experiment; plane product
+/// 14"; calibration last.
+pub fn opened(file: &[u8], room: usize) -> Result<Summary, u32> {
+    match u32_at(file, 0) {
+        Some(MARK) => {}
+        Some(LEGACY_MARK) => return Err(LEGACY),
+        _ => return Err(FOREIGN),
+    }
+    let place = map::place(file)?;
+    let map = Map::read(part(file, place).ok_or(CHUNK)?)?;
+    let sizes = attributes::read(&named_root(file, &map, attributes::CHUNK_NAME, room)?)?;
+    let root = named_root(file, &map, loops::CHUNK_NAME, room)?;
+    let experiment = loops::experiment(&root)?;
+    let loops = loops::read(experiment)?;
+    if !sizes.plane_holds() {
+        return Err(FRAME_SHAPE);
+    }
+    let calibration = calibrated(file, &map, experiment, room)?;
+    Ok(Summary::new(place, sizes, &loops, calibration))
+}
+
+/// "Opening reads calibration last, channels never; only 18 stops it there."
+fn calibrated(file: &[u8], map: &Map, experiment: &Level, room: usize) -> Result<Calibration, u32> {
+    match named_root(file, map, calibration::CHUNK_NAME, room) {
+        Ok(root) => Ok(calibration::read(&root, experiment)),
+        Err(TABLE) => Err(TABLE),
+        Err(PACKED) => Ok(calibration::unstated(calibration::PACKED_TREE)),
+        Err(_) => Ok(calibration::unstated(calibration::NONE)),
+    }
+}
+
+/// 20 and 5: the map of a summary.
+fn map_of<'a>(file: &'a [u8], summary: &Summary) -> Result<Map<'a>, u32> {
+    if !summary.sound(file) {
+        return Err(SUMMARY);
+    }
+    Map::read(part(file, summary.map).ok_or(SUMMARY)?)
+}
+
+fn number(answer: Result<(), u32>) -> u32 {
+    answer.err().unwrap_or(0)
+}
+
+/// "Plane: file, summary, scene, t, c, z, sample bytes."
+#[allow(clippy::too_many_arguments)]
+pub fn plane(
+    file: &[u8],
+    summary: &Summary,
+    scene: u64,
+    t: u64,
+    c: u64,
+    z: u64,
+    samples: &mut [u8],
+) -> u32 {
+    let frame = frame_for(file, summary, [scene, t, c, z], samples.len());
+    number(frame.map(|data| copy(data, summary, c, samples)))
+}
+
+/// A frame's bytes after the prefix: "20, 21, 22, 5, 23, 4, 24, 25".
+fn frame_for<'a>(file: &'a [u8], s: &Summary, at: [u64; 4], room: usize) -> Result<&'a [u8], u32> {
+    let [scene, t, _, z] = at;
+    if !s.sound(file) {
+        return Err(SUMMARY);
+    }
+    let counts = [
+        s.count(Axis::P),
+        s.count(Axis::T),
+        s.components,
+        s.count(Axis::Z),
+    ];
+    if at.iter().zip(&counts).any(|(index, count)| index >= count) {
+        return Err(INDEX);
+    }
+    let bytes = s.attributes().plane_bytes().ok_or(CEILING)?;
+    if bytes > MOST_PLANE {
+        return Err(CEILING);
+    }
+    let map = map_of(file, s)?;
+    let name = format!("ImageDataSeq|{}!", s.frame(scene, t, z));
+    let offset = map.find(name.as_bytes()).ok_or(NO_FRAME)?;
+    let rows = frame_rows(file, s, chunks::data(file, offset, b"")?)?;
+    if bytes > room as u128 {
+        return Err(BUFFER);
+    }
+    Ok(rows)
+}
+
+/// 24: "under 8 bytes, row bytes × height past 2^64 − 1 or more than what follows the prefix".
+fn frame_rows<'a>(file: &'a [u8], s: &Summary, data: Range) -> Result<&'a [u8], u32> {
+    let len = data.len.checked_sub(PREFIX).ok_or(FRAME_SHORT)?;
+    let rows = s.stride as u128 * s.height as u128;
+    if rows > len as u128 {
+        return Err(FRAME_SHORT);
+    }
+    let start = data.start + PREFIX;
+    part(file, Range { start, len }).ok_or(FRAME_SHORT)
+}
+
+/// "Writes width × height samples row by row, bytes as in the file; later bytes untouched."
+fn copy(frame: &[u8], s: &Summary, c: u64, samples: &mut [u8]) {
+    let size = s.attributes().sample_bytes() as usize;
+    let step = s.components as usize * size;
+    let first = c as usize * size;
+    let width = s.width as usize;
+    let rows = frame
+        .chunks_exact(s.stride as usize)
+        .take(s.height as usize);
+    for (row, out) in rows.zip(samples.chunks_exact_mut(width * size)) {
+        for x in 0..width {
+            let at = x * step + first;
+            out[x * size..(x + 1) * size].copy_from_slice(&row[at..at + size]);
+        }
+    }
+}
+
+/// "Tree: file, summary, a chunk name, table. One entry per record read, in file order; the rest zero."
+pub fn tree(file: &[u8], summary: &Summary, name: &[u8], table: &mut [u8]) -> u32 {
+    table.fill(0);
+    let room = trees::room(table);
+    let entries = map_of(file, summary).and_then(|map| named_tree(file, &map, name, room));
+    number(entries.map(|entries| trees::write(&entries, table)))
+}
+
+/// "Channels: file, summary, table (zero afterwards), and a lent row of channel records, one for each component;
+/// surplus records zero."
+pub fn channels(file: &[u8], summary: &Summary, table: &mut [u8], row: &mut [Channel]) -> u32 {
+    table.fill(0);
+    row.fill(Channel::default());
+    let records = channel_records(file, summary, trees::room(table), row.len());
+    let fill = |records: Vec<Channel>| {
+        let lent = row.iter_mut().take(summary.components as usize);
+        lent.zip(records)
+            .for_each(|(place, record)| *place = record);
+    };
+    number(records.map(fill))
+}
+
+/// "20, 5, 19, 18"; "a missing or failing chunk or tree, 18 excepted, gives only empty ones".
+fn channel_records(
+    file: &[u8],
+    summary: &Summary,
+    room: usize,
+    lent: usize,
+) -> Result<Vec<Channel>, u32> {
+    let map = map_of(file, summary)?;
+    if (lent as u64) < summary.components {
+        return Err(CHANNEL_ROW);
+    }
+    match named_root(file, &map, channels::CHUNK_NAME, room) {
+        Ok(root) => Ok(channels::read(&root)),
+        Err(TABLE) => Err(TABLE),
+        Err(_) => Ok(Vec::new()),
+    }
+}
+
+/// "Register: file, summary, buffer." "20, 5, 25 (a product past 2^64 − 1 is short)": no buffer is that long.
+pub fn register(file: &[u8], summary: &Summary, buffer: &mut [u8]) -> u32 {
+    let map = match map_of(file, summary) {
+        Ok(map) => map,
+        Err(refused) => return refused,
+    };
+    let frames = summary.frames();
+    if frames * RECORD_BYTES as u128 > buffer.len() as u128 {
+        return BUFFER;
+    }
+    let index = map.index();
+    let records = buffer.chunks_exact_mut(RECORD_BYTES);
+    for (n, record) in (0..frames).zip(records) {
+        let name = format!("ImageDataSeq|{n}!");
+        put_u32(record, 0, summary.index(Axis::P, n) as u32);
+        put_u32(record, 4, summary.index(Axis::T, n) as u32);
+        put_u32(record, 8, summary.index(Axis::Z, n) as u32);
+        let found = index.get(name.as_bytes());
+        put_u32(record, 12, found.is_none() as u32);
+        put_u64(record, 16, found.copied().unwrap_or(0));
+    }
+    0
+}
+
+/// "Border: [...] one function that opens and then reads a plane." "The first refusal is its answer."
+#[allow(clippy::too_many_arguments)]
+pub fn read_plane(
+    file: &[u8],
+    table: &mut [u8],
+    scene: u64,
+    t: u64,
+    c: u64,
+    z: u64,
+    samples: &mut [u8],
+) -> u32 {
+    match open(file, table) {
+        Ok(summary) => plane(file, &summary, scene, t, c, z, samples),
+        Err(refused) => refused,
+    }
+}

@@ -1,0 +1,23 @@
+//! Document 01 in plain Rust, over byte slices: every call and every lent byte.
+//!
+//! Written from document 01 alone, so that the proved reader and the original can be held against it. One file for
+//! each of the document's headings; `calls` has the calls themselves.
+
+pub mod attributes;
+pub mod bytes;
+pub mod calibration;
+pub mod calls;
+pub mod channels;
+pub mod chunks;
+pub mod loops;
+pub mod map;
+pub mod names;
+pub mod numbers;
+pub mod refusal;
+pub mod summary;
+pub mod trees;
+pub mod values;
+
+pub use calls::{channels, open, plane, read_plane, register, tree};
+pub use channels::Channel;
+pub use summary::{Axis, Loop, Range, Summary};
