@@ -12,6 +12,7 @@ mod check;
 mod numbers;
 mod original;
 mod plan;
+mod proved;
 
 mod reader;
 mod run;

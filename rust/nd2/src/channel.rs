@@ -1,7 +1,7 @@
 //! Channels: what a component is called, and its colour.
 
 use crate::bytes::u64_at;
-use crate::ffi::CHANNEL_BYTES;
+use crate::raw::CHANNEL_BYTES;
 use crate::text::decoded;
 
 /// One component of the frames.

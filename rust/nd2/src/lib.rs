@@ -29,8 +29,8 @@
 
 mod bytes;
 mod channel;
-mod ffi;
 mod file;
+pub mod raw;
 mod reader;
 mod refusal;
 mod register;

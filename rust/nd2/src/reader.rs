@@ -1,7 +1,7 @@
 //! The calls, over the bytes of one file.
 
 use crate::channel::Channel;
-use crate::ffi::{self, CHANNEL_BYTES, ENTRY_BYTES, FRAME_BYTES, SUMMARY_BYTES};
+use crate::raw::{self, CHANNEL_BYTES, ENTRY_BYTES, FRAME_BYTES, SUMMARY_BYTES};
 use crate::refusal::Refusal;
 use crate::register::Frame;
 use crate::summary::Summary;
@@ -39,7 +39,7 @@ impl<'a> Reader<'a> {
     pub fn open(file: &'a [u8]) -> Result<Reader<'a>, Refusal> {
         let mut laid = [0; SUMMARY_BYTES];
         let first = FIRST_ENTRIES * ENTRY_BYTES;
-        let table = with_table(file, first, |table| ffi::open(file, table, &mut laid))?;
+        let table = with_table(file, first, |table| raw::open(file, table, &mut laid))?;
         Ok(Reader {
             file,
             laid,
@@ -103,7 +103,7 @@ impl<'a> Reader<'a> {
         z: u64,
         samples: &mut [u8],
     ) -> Result<(), Refusal> {
-        Refusal::of_call(ffi::plane(self.file, &self.laid, [scene, t, c, z], samples))
+        Refusal::of_call(raw::plane(self.file, &self.laid, [scene, t, c, z], samples))
     }
 
     /// The channels, one for each component. One that the file does not describe has neither name nor colour.
@@ -115,7 +115,7 @@ impl<'a> Reader<'a> {
         let bytes = records(self.summary.components, CHANNEL_BYTES);
         let mut row = bytes.and_then(zeroed).ok_or(Refusal::CHANNEL_ROW)?;
         with_table(self.file, self.room, |table| {
-            ffi::channels(self.file, &self.laid, table, &mut row)
+            raw::channels(self.file, &self.laid, table, &mut row)
         })?;
         Ok(Channel::read_all(self.file, &row))
     }
@@ -145,7 +145,7 @@ impl<'a> Reader<'a> {
     ///
     /// 25 where the buffer is too short.
     pub fn register_into(&self, buffer: &mut [u8]) -> Result<(), Refusal> {
-        Refusal::of_call(ffi::register(self.file, &self.laid, buffer))
+        Refusal::of_call(raw::register(self.file, &self.laid, buffer))
     }
 
     /// The tree of a chunk. Names end in `!`, as `ImageAttributesLV!`.
@@ -166,7 +166,7 @@ impl<'a> Reader<'a> {
     pub fn tree(&self, name: impl AsRef<[u8]>) -> Result<Tree<'a>, Refusal> {
         let name = name.as_ref();
         let table = with_table(self.file, self.room, |table| {
-            ffi::tree(self.file, &self.laid, name, table)
+            raw::tree(self.file, &self.laid, name, table)
         })?;
         Ok(Tree::new(self.file, table))
     }

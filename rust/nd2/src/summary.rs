@@ -1,7 +1,7 @@
 //! What opening a file tells of it.
 
 use crate::bytes::{f32_at, u64_at};
-use crate::ffi::SUMMARY_BYTES;
+use crate::raw::SUMMARY_BYTES;
 
 /// What a loop runs over.
 #[derive(Clone, Copy, Debug, PartialEq, Eq, Hash)]

@@ -1,7 +1,7 @@
 //! The tree of a chunk.
 
 use crate::bytes::{part, u32_at, u64_at};
-use crate::ffi::ENTRY_BYTES;
+use crate::raw::ENTRY_BYTES;
 use crate::text::decoded;
 use std::fmt;
 

@@ -1,7 +1,11 @@
-//! The C interface, as `include/nd2.h` declares it, behind functions over slices.
+//! The C interface as it is (`include/nd2.h`): every call over lent slices, answered by a number.
 //!
-//! Every `unsafe` block here passes a slice as its pointer and its length. A slice of Rust is never null, lives through
-//! the call, and one that is written overlaps no other: all that the header asks for.
+//! 0 is an accepted call, any other number a [`Refusal`](crate::Refusal). On a refusal samples and register keep every
+//! byte, and table, summary and channel records are all zero. [`Reader`](crate::Reader) is made of these calls; they are
+//! for callers that lend their own buffers, and for tests.
+//!
+//! Every `unsafe` block here passes a slice as its pointer and its length. A slice of Rust is never null, lives through the
+//! call, and one that is written overlaps no other: all that the header asks for.
 
 /// Bytes of a summary.
 pub const SUMMARY_BYTES: usize = 144;
@@ -62,10 +66,23 @@ mod calls {
             buffer: *mut u8,
             buffer_len: usize,
         ) -> u32;
+        pub fn nd2_read_plane(
+            file: *const u8,
+            file_len: usize,
+            table: *mut u8,
+            table_len: usize,
+            scene: u64,
+            t: u64,
+            c: u64,
+            z: u64,
+            samples: *mut u8,
+            samples_len: usize,
+        ) -> u32;
     }
 }
 
-pub fn open(file: &[u8], table: &mut [u8], summary: &mut [u8; SUMMARY_BYTES]) -> u32 {
+/// Opens a file and writes its summary, [`SUMMARY_BYTES`] long. The table is all zero afterwards.
+pub fn open(file: &[u8], table: &mut [u8], summary: &mut [u8]) -> u32 {
     unsafe {
         calls::nd2_open(
             file.as_ptr(),
@@ -78,7 +95,7 @@ pub fn open(file: &[u8], table: &mut [u8], summary: &mut [u8; SUMMARY_BYTES]) ->
     }
 }
 
-/// `at` is scene, t, c and z.
+/// Writes the samples of the plane at scene, t, c and z; later bytes keep what they are.
 pub fn plane(file: &[u8], summary: &[u8], at: [u64; 4], samples: &mut [u8]) -> u32 {
     let [scene, t, c, z] = at;
     unsafe {
@@ -97,6 +114,7 @@ pub fn plane(file: &[u8], summary: &[u8], at: [u64; 4], samples: &mut [u8]) -> u
     }
 }
 
+/// Writes the entries of the tree of a chunk, and zeros behind them.
 pub fn tree(file: &[u8], summary: &[u8], name: &[u8], table: &mut [u8]) -> u32 {
     unsafe {
         calls::nd2_tree(
@@ -112,6 +130,7 @@ pub fn tree(file: &[u8], summary: &[u8], name: &[u8], table: &mut [u8]) -> u32 {
     }
 }
 
+/// Writes a record for each component, and zeros behind them. The table is all zero afterwards.
 pub fn channels(file: &[u8], summary: &[u8], table: &mut [u8], row: &mut [u8]) -> u32 {
     unsafe {
         calls::nd2_channels(
@@ -127,6 +146,7 @@ pub fn channels(file: &[u8], summary: &[u8], table: &mut [u8], row: &mut [u8]) -
     }
 }
 
+/// Writes the record of each frame; later bytes keep what they are.
 pub fn register(file: &[u8], summary: &[u8], buffer: &mut [u8]) -> u32 {
     unsafe {
         calls::nd2_register(
@@ -136,6 +156,25 @@ pub fn register(file: &[u8], summary: &[u8], buffer: &mut [u8]) -> u32 {
             summary.len(),
             buffer.as_mut_ptr(),
             buffer.len(),
+        )
+    }
+}
+
+/// Opens a file and reads the plane at scene, t, c and z. The table is all zero afterwards.
+pub fn read_plane(file: &[u8], table: &mut [u8], at: [u64; 4], samples: &mut [u8]) -> u32 {
+    let [scene, t, c, z] = at;
+    unsafe {
+        calls::nd2_read_plane(
+            file.as_ptr(),
+            file.len(),
+            table.as_mut_ptr(),
+            table.len(),
+            scene,
+            t,
+            c,
+            z,
+            samples.as_mut_ptr(),
+            samples.len(),
         )
     }
 }
