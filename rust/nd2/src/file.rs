@@ -48,14 +48,12 @@ impl File {
     ///
     /// What the operating system says, and "not a regular file" for folders, pipes and devices.
     pub fn open_path(path: impl AsRef<Path>) -> io::Result<File> {
+        let path = path.as_ref();
+        // looked at first, since opening a pipe would wait for its writer
+        regular(&fs::metadata(path)?)?;
         let file = fs::File::open(path)?;
         let data = file.metadata()?;
-        if !data.is_file() {
-            return Err(io::Error::new(
-                io::ErrorKind::InvalidInput,
-                "not a regular file",
-            ));
-        }
+        regular(&data)?;
         let len = usize::try_from(data.len()).map_err(io::Error::other)?;
         let start = match len {
             0 => None,
@@ -80,6 +78,16 @@ impl File {
     /// As [`Reader::open`].
     pub fn reader(&self) -> Result<Reader<'_>, Refusal> {
         Reader::open(self.bytes())
+    }
+}
+
+fn regular(data: &fs::Metadata) -> io::Result<()> {
+    match data.is_file() {
+        true => Ok(()),
+        false => Err(io::Error::new(
+            io::ErrorKind::InvalidInput,
+            "not a regular file",
+        )),
     }
 }
 
