@@ -18,12 +18,16 @@ use nd2::Reader;
 use original::Original;
 use sample::parts::Sizes;
 use std::io;
+use std::ops::RangeInclusive;
 use std::path::PathBuf;
 use std::process::ExitCode;
 use table::Row;
 
 const USAGE: &str = "\
 usage: bench [ORIGINAL_FOLDER] [--only planes|roller|map] [--side N] [--roller-side N] [--entries N] [--repetitions N]";
+
+/// A map of fewer has no frames, and one of more is refused.
+const ENTRIES: RangeInclusive<u32> = 4..=2_000_000;
 
 struct Options {
     original: Option<PathBuf>,
@@ -56,7 +60,9 @@ fn options() -> Option<Options> {
         match argument.to_str() {
             Some("--side") => options.side = value()?.into(),
             Some("--roller-side") => options.roller_side = value()?,
-            Some("--entries") => options.entries = value().filter(|&n| n >= 4)? as usize,
+            Some("--entries") => {
+                options.entries = value().filter(|n| ENTRIES.contains(n))? as usize
+            }
             Some("--repetitions") => options.repetitions = value()?,
             Some("--only") => options.only = Some(group(arguments.next()?.to_str()?)?),
             Some(option) if option.starts_with('-') => return None,
@@ -80,6 +86,10 @@ impl Options {
 }
 
 fn main() -> ExitCode {
+    if std::env::args_os().any(|word| word == "--help" || word == "-h") {
+        println!("{USAGE}");
+        return ExitCode::SUCCESS;
+    }
     let Some(options) = options() else {
         eprintln!("{USAGE}");
         return ExitCode::from(2);
