@@ -1,8 +1,8 @@
-//! Finds libcapi.a, the proved reader, and links it.
+//! Finds libcapi.a and libborder.a, the proved reader, and links them.
 //!
-//! ND2_STATICLIB_DIR names a folder that has it. Otherwise it is target/staticlib of the repository, and `rt staticlib
-//! capi` writes it there: where it is missing, and where a crate's file is newer. Without `rt` the one that is there is
-//! taken.
+//! ND2_STATICLIB_DIR names a folder that has them. Otherwise they are in target/staticlib of the repository, and `rt
+//! staticlib` writes them there: where one is missing, and where a crate's file is newer. Without `rt` those that are
+//! there are taken.
 
 use std::env;
 use std::fs;
@@ -11,12 +11,13 @@ use std::process::Command;
 use std::time::SystemTime;
 
 const DIR: &str = "ND2_STATICLIB_DIR";
-const LIBRARY: &str = "libcapi.a";
+/// The C interface, and the call that opens a file and reads a plane of it.
+const CRATES: [&str; 2] = ["capi", "border"];
 
 fn main() {
     println!("cargo:rerun-if-env-changed={DIR}");
     match library_folder() {
-        Ok(folder) => link(&folder),
+        Ok(folder) => CRATES.iter().for_each(|name| link(&folder, name)),
         Err(reason) => {
             eprintln!("{reason}");
             std::process::exit(1);
@@ -24,32 +25,42 @@ fn main() {
     }
 }
 
-fn link(folder: &Path) {
-    println!("cargo:rerun-if-changed={}", folder.join(LIBRARY).display());
+fn link(folder: &Path, name: &str) {
+    let library = library(folder, name);
+    println!("cargo:rerun-if-changed={}", library.display());
     println!("cargo:rustc-link-search=native={}", folder.display());
-    println!("cargo:rustc-link-lib=static=capi");
+    println!("cargo:rustc-link-lib=static={name}");
 }
 
-/// The folder that has the library.
+fn library(folder: &Path, name: &str) -> PathBuf {
+    folder.join(format!("lib{name}.a"))
+}
+
+/// The folder that has the libraries.
 fn library_folder() -> Result<PathBuf, String> {
     if let Some(folder) = env::var_os(DIR) {
-        let folder = PathBuf::from(folder);
-        if !folder.join(LIBRARY).is_file() {
-            return Err(format!(
-                "{DIR} is {}, which has no {LIBRARY}",
-                folder.display()
-            ));
-        }
-        return Ok(folder);
+        return given(PathBuf::from(folder));
     }
     let root = repository()?;
-    println!("cargo:rerun-if-changed={}", root.join("crates").display());
+    let crates = root.join("crates");
+    println!("cargo:rerun-if-changed={}", crates.display());
     let folder = root.join("target/staticlib");
-    let library = folder.join(LIBRARY);
-    if stale(&library, &root.join("crates")) {
-        prove(&root, &library)?;
+    for name in CRATES {
+        let library = library(&folder, name);
+        if stale(&library, &crates) {
+            prove(&root, name, &library)?;
+        }
     }
     Ok(folder)
+}
+
+/// A folder that was named, if it has all libraries.
+fn given(folder: PathBuf) -> Result<PathBuf, String> {
+    let mut libraries = CRATES.iter().map(|name| library(&folder, name));
+    match libraries.find(|library| !library.is_file()) {
+        Some(missing) => Err(format!("{DIR}: {} is not there", missing.display())),
+        None => Ok(folder),
+    }
 }
 
 fn repository() -> Result<PathBuf, String> {
@@ -85,26 +96,26 @@ fn newest(folder: &Path) -> Option<SystemTime> {
     times.max()
 }
 
-/// Proves the C interface and writes the library.
-fn prove(root: &Path, library: &Path) -> Result<(), String> {
+/// Proves a crate and writes its library.
+fn prove(root: &Path, name: &str, library: &Path) -> Result<(), String> {
     let told = Command::new("rt")
-        .args(["staticlib", "capi"])
+        .args(["staticlib", name])
         .current_dir(root)
         .output();
     match told {
         Ok(told) if told.status.success() && library.is_file() => touch(library),
         Ok(told) => Err(format!(
-            "rt staticlib capi: {}\n{}{}",
+            "rt staticlib {name}: {}\n{}{}",
             told.status,
             String::from_utf8_lossy(&told.stdout),
             String::from_utf8_lossy(&told.stderr)
         )),
         Err(_) if library.is_file() => {
-            println!("cargo:warning={LIBRARY} is older than the crates, and rt is not there");
+            println!("cargo:warning=lib{name}.a is older than the crates, and rt is not there");
             Ok(())
         }
         Err(error) => Err(format!(
-            "{LIBRARY} is not there and rt does not run ({error}): install the Rattle kit, or set {DIR}"
+            "lib{name}.a is not there and rt does not run ({error}): install the Rattle kit, or set {DIR}"
         )),
     }
 }
