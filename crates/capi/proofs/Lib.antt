@@ -1,1 +1,2 @@
 pub mod OnSummary
+pub mod Rows

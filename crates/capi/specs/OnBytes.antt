@@ -1,18 +1,20 @@
 -- The calls over summaries in lent bytes: "a summary that is not of the layout is 20".
-use Prim.Native.Nat.{ℕ}
+use Prim.Native.Nat.{ℕ, _/_}
 use mathlib.Core.Bool.{cond}
 use mathlib.Core.Option.{Option, none, some}
 use mathlib.Core.List.{List}
-use lib.ListN.{length}
+use lib.ListN.{length, replicate}
 use lib.Dec.{eqb}
-use Rattle.format.specs.Bytes.{zeros}
+use Rattle.format.specs.Bytes.{zeros, over}
 use Rattle.format.specs.Refusals as why
 use Rattle.format.specs.Calls.Open.{openCall}
 use Rattle.format.specs.Calls.Plane.{Outcome, planeCall}
 use Rattle.format.specs.Calls.Tree.{treeCall}
+use Rattle.format.specs.Channels.{emptyChannel}
+use Rattle.format.specs.Calls.Channels.{channelsCall}
 use Rattle.format.specs.Calls.Register.{registerCall}
 use Rattle.format.specs.declared.Summary.{Summary}
-use Rattle.layout.specs.Layout.{summaryFrom}
+use Rattle.layout.specs.Layout.{summaryFrom, rowBytes}
 
 -- what a call answers on the summary that the bytes say; `bad` is what the lent buffer holds where they say none
 unfoldable pub onSummary : List ℕ → (Summary → Outcome) → Option Summary → Outcome
@@ -26,6 +28,17 @@ planeOn file summary scene t c z samples = onSummary samples (λ u. planeCall fi
 unfoldable pub treeOn : List ℕ → List ℕ → List ℕ → List ℕ → Outcome
 unfolding onSummary summaryFrom treeCall
 treeOn file summary name table = onSummary (zeros (length table)) (λ u. treeCall file u name table) (summaryFrom summary)
+
+-- the channels call on a lent row of n bytes: as many records as fit, zeros behind them. What the row held before is not looked at.
+unfoldable pub channelRow : List ℕ → Summary → List ℕ → ℕ → Outcome
+unfolding rowBytes over zeros
+channelRow file u table n =
+    let call = channelsCall file u table (replicate (n / 56) emptyChannel) in
+    record { number = call .number; buffer = over (rowBytes (call .row)) (zeros n) }
+
+unfoldable pub channelsOn : List ℕ → List ℕ → List ℕ → ℕ → Outcome
+unfolding onSummary summaryFrom channelRow
+channelsOn file summary table n = onSummary (zeros n) (λ u. channelRow file u table n) (summaryFrom summary)
 
 unfoldable pub registerOn : List ℕ → List ℕ → List ℕ → Outcome
 unfolding onSummary summaryFrom registerCall

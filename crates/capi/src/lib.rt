@@ -1,7 +1,13 @@
 // The C interface: every call over numbers and byte slices, with summaries and channel records as lent bytes. include/nd2.h declares it.
+use channels::planes::Planes;
+use channels::planes::next_plane;
+use channels::prepare;
 use cursor::clear;
+use format::Summary;
 use format::refusal;
+use layout::CHANNEL_BYTES;
 use layout::SUMMARY_BYTES;
+use layout::put_channel;
 use layout::put_summary;
 use layout::summary_from;
 use open::open;
@@ -10,12 +16,15 @@ use register::register;
 use tree_call::tree;
 ghost use mathlib.Core.Path.{_≡_};
 ghost use mathlib.Core.Option.{some};
+ghost use Prim.Native.Nat.{_*_, _≤_};
 ghost use lib.ListN.{length};
-ghost use Rattle.format.specs.Bytes.{zeros};
+ghost use Rattle.format.specs.Bytes.{zeros, over};
+ghost use Rattle.format.specs.Channels.{fitted};
 ghost use Rattle.format.specs.Demands.{Refuses};
 ghost use Rattle.format.specs.Calls.Open.{openCall};
-ghost use Rattle.layout.specs.Layout.{summaryFrom};
-ghost use Rattle.capi.specs.OnBytes.{openOn, planeOn, treeOn, registerOn};
+ghost use Rattle.channels.specs.Ahead.{ahead, Stands};
+ghost use Rattle.layout.specs.Layout.{summaryFrom, rowBytes};
+ghost use Rattle.capi.specs.OnBytes.{openOn, planeOn, treeOn, channelRow, channelsOn, registerOn};
 
 // Opens a file, and stores its summary: 0, or the number of the first refusal and a summary of zeros. The table is all zero afterwards.
 #[no_mangle]
@@ -73,6 +82,54 @@ pub extern "C" fn nd2_tree(file: &[u8], summary: &[u8], name: &[u8], table: &mut
         let u = laid.summary;
         return tree(file, u, name, table);
     }
+    clear(table);
+    refusal::SUMMARY
+}
+
+// Stores the records of a walk, one after another.
+fn put_records(file: &[u8], table: &[u8], first: Planes, row: &mut [u8], count: usize)
+    requires { ⌜ Stands (now file) (now table) first × (56 * count ≤ length (now row)) ⌝ }
+    ensures { λ _. ⌜ now (row .exit) ≡ over (rowBytes (fitted count (ahead (now (file .entry)) (now (table .entry)) first))) (now (row .entry)) ⌝ }
+{
+    let mut p = first;
+    let mut k = 0;
+    while k < count {
+        let c = p.channel;
+        put_channel(row, CHANNEL_BYTES * k, c);
+        p = next_plane(file, table, p);
+        k += 1;
+    }
+}
+
+// The channels of a summary, into the lent bytes; the table is all zero afterwards.
+fn put_row(file: &[u8], u: Summary, table: &mut [u8], row: &mut [u8]) -> u32
+    ensures number { λ r. ⌜ r ≡ channelRow (now (file .entry)) u (now (table .entry)) (length (now (row .entry))) .number ⌝ }
+    ensures row { λ _. ⌜ now (row .exit) ≡ channelRow (now (file .entry)) u (now (table .entry)) (length (now (row .entry))) .buffer ⌝ }
+    ensures table { λ _. ⌜ now (table .exit) ≡ zeros (length (now (table .entry))) ⌝ }
+{
+    clear(row);
+    let count = row.len() / CHANNEL_BYTES;
+    let p = prepare(file, u, table, count);
+    let first = p.planes;
+    put_records(file, table, first, row, count);
+    clear(table);
+    p.number
+}
+
+// A record for each component, surplus ones zero; 0, or the number of the first refusal and a row of zeros. The table is all zero afterwards.
+#[no_mangle]
+pub extern "C" fn nd2_channels(file: &[u8], summary: &[u8], table: &mut [u8], row: &mut [u8]) -> u32
+    ensures number { λ r. ⌜ r ≡ channelsOn (now (file .entry)) (now (summary .entry)) (now (table .entry)) (length (now (row .entry))) .number ⌝ }
+    ensures row { λ _. ⌜ now (row .exit) ≡ channelsOn (now (file .entry)) (now (summary .entry)) (now (table .entry)) (length (now (row .entry))) .buffer ⌝ }
+    ensures table { λ _. ⌜ now (table .exit) ≡ zeros (length (now (table .entry))) ⌝ }
+    ensures refused { λ r. ⌜ (Refuses r → now (row .exit) ≡ zeros (length (now (row .entry)))) ⌝ }
+{
+    let laid = summary_from(summary);
+    if laid.ok {
+        let u = laid.summary;
+        return put_row(file, u, table, row);
+    }
+    clear(row);
     clear(table);
     refusal::SUMMARY
 }

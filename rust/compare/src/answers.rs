@@ -4,15 +4,23 @@ use crate::reader::Reader;
 use plan::{Plan, MOST_FRAMES, TREES};
 use second::trees::ENTRY_BYTES;
 use second::{Channel, Summary};
+use std::fmt;
 
 /// What lent bytes hold before a call.
 const FILL: u8 = 0xA5;
 
 /// A call's number and what the lent bytes hold after it.
-#[derive(Clone, Debug, PartialEq)]
+#[derive(Clone, PartialEq)]
 pub struct Lent {
     pub number: u32,
     pub bytes: Vec<u8>,
+}
+
+/// The number and how many bytes there are: all of them would fill a report.
+impl fmt::Debug for Lent {
+    fn fmt(&self, f: &mut fmt::Formatter<'_>) -> fmt::Result {
+        write!(f, "{} with {} bytes", self.number, self.bytes.len())
+    }
 }
 
 #[derive(Clone, Debug, PartialEq)]

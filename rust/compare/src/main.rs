@@ -11,6 +11,7 @@ mod answers;
 mod check;
 mod numbers;
 mod original;
+mod proved;
 mod reader;
 mod run;
 mod table;

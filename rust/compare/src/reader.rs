@@ -1,5 +1,6 @@
 //! The seam: what a reader has to answer to be compared. A reader that is linked in from elsewhere gets an `impl` here.
 
+use crate::proved::Proved;
 use second::{Channel, Summary};
 
 /// The calls of document 01, over lent bytes.
@@ -72,5 +73,5 @@ impl Reader for Second {
 /// The readers that are compared, the second implementation first. Each is held against the original, and each further
 /// one against the first, call by call and byte by byte.
 pub fn readers() -> Vec<Box<dyn Reader>> {
-    vec![Box::new(Second)]
+    vec![Box::new(Second), Box::new(Proved)]
 }

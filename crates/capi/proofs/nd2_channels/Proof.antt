@@ -1,0 +1,75 @@
+-- `nd2_channels`: the channels call on the summary that the bytes say.
+use mathlib.Core.Path.{refl, _∙_}
+use lib.ListN.{length}
+use Rattle.format.specs.Bytes.{zeros}
+use Rattle.capi.proofs.OnSummary.{on-some, on-none, both}
+use Rattle.capi.proofs.Rows.{row-refused}
+use Rattle.capi.specs.OnBytes.{channelRow, channelsOn}
+use borrow.Author.Needs.{needs}
+use Rattle.capi.proofs.nd2_channels.Statement.{statement}
+use Rattle.capi.proofs.nd2_channels.Tie as tie
+
+summary-from-requires : tie.Need-summary-from-requires
+summary-from-requires c κs = search needs
+
+put-row-requires : tie.Need-put-row-requires
+put-row-requires c κs = search needs
+
+same-length : tie.Need-same-length
+same-length c = search needs
+
+same-length-2 : tie.Need-same-length-2
+same-length-2 c = search needs
+
+returns : tie.Need-returns
+unfolding channelsOn
+returns c =
+    let p = c .before .before .before .before in
+    let i = p .before .before .before .before in
+    let l = i .before .summary-from in
+    let e = p .put-row .ensures in
+    let a = i .before .before .before .before .before .before .args in
+    let k = length (a .row .now) in
+    let o = on-some (zeros k) (λ u. channelRow (a .file .now) u (a .table .now) k) (l .result) (l .ensures) (i .if1 .taken) in
+    let (n, b) = both o (e .0) (e .1 .0) in
+    (n, (b, (e .1 .1, λ r. e .1 .0 ∙ row-refused (a .file .now) (a .table .now) (l .result .summary) k (λ z. r (e .0 ∙ z)))))
+
+clear-requires : tie.Need-clear-requires
+clear-requires c κs = search needs
+
+clear-requires-2 : tie.Need-clear-requires-2
+clear-requires-2 c κs = search needs
+
+same-length-3 : tie.Need-same-length-3
+same-length-3 c = search needs
+
+same-length-4 : tie.Need-same-length-4
+same-length-4 c = search needs
+
+returns-2 : tie.Need-returns-2
+unfolding channelsOn
+returns-2 c =
+    let t = c .before .before in
+    let d = t .before .before .before .before in
+    let i = d .before .before in
+    let l = i .before .summary-from in
+    let a = i .before .before .before .before .before .before .args in
+    let k = length (a .row .now) in
+    let o = on-none (zeros k) (λ u. channelRow (a .file .now) u (a .table .now) k) (l .result) (l .ensures) (i .if1 .left) in
+    let (n, b) = both o refl (d .clear .ensures) in
+    (n, (b, (t .clear2 .ensures, λ _. d .clear .ensures)))
+
+pub nd2-channels-spec : {M : Type 1} → statement M
+nd2-channels-spec =
+    tie.close
+    (tie.spec
+    summary-from-requires
+    put-row-requires
+    same-length
+    same-length-2
+    returns
+    clear-requires
+    clear-requires-2
+    same-length-3
+    same-length-4
+    returns-2)

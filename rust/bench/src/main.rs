@@ -1,0 +1,211 @@
+//! Times the proved reader beside memcpy, the second implementation and the original.
+//!
+//!     bench [ORIGINAL_FOLDER] [--only planes|roller|map] [--side N] [--roller-side N] [--entries N] [--repetitions N]
+//!
+//! ORIGINAL_FOLDER has the original's nd2_reader.rs, calibration.rs, types.rs and guard.rs; without it the original is
+//! left out. Planes have N x N samples (--side, 2048); those of the roller, of which there are 528, N x N too
+//! (--roller-side, 512: with 2048 the roller has 4.4 GB and as much memory is needed). All contenders take turns in this one
+//! process, and the best time of each counts. The exit status is 1 where a target is missed.
+
+mod cases;
+mod files;
+mod memory;
+mod original;
+mod table;
+mod timing;
+
+use nd2::Reader;
+use original::Original;
+use sample::parts::Sizes;
+use std::io;
+use std::ops::RangeInclusive;
+use std::path::PathBuf;
+use std::process::ExitCode;
+use table::Row;
+
+const USAGE: &str = "\
+usage: bench [ORIGINAL_FOLDER] [--only planes|roller|map] [--side N] [--roller-side N] [--entries N] [--repetitions N]";
+
+/// A map of fewer has no frames, and one of more is refused.
+const ENTRIES: RangeInclusive<u32> = 4..=2_000_000;
+
+struct Options {
+    original: Option<PathBuf>,
+    only: Option<String>,
+    side: u64,
+    roller_side: u32,
+    entries: usize,
+    repetitions: u32,
+}
+
+fn options() -> Option<Options> {
+    let mut arguments = std::env::args_os().skip(1);
+    let mut options = Options {
+        original: None,
+        only: None,
+        side: 2048,
+        roller_side: 512,
+        entries: 2_000_000,
+        repetitions: 5,
+    };
+    while let Some(argument) = arguments.next() {
+        let mut value = || {
+            arguments
+                .next()?
+                .to_str()?
+                .parse()
+                .ok()
+                .filter(|&n: &u32| n >= 1)
+        };
+        match argument.to_str() {
+            Some("--side") => options.side = value()?.into(),
+            Some("--roller-side") => options.roller_side = value()?,
+            Some("--entries") => {
+                options.entries = value().filter(|n| ENTRIES.contains(n))? as usize
+            }
+            Some("--repetitions") => options.repetitions = value()?,
+            Some("--only") => options.only = Some(group(arguments.next()?.to_str()?)?),
+            Some(option) if option.starts_with('-') => return None,
+            _ if options.original.is_some() => return None,
+            _ => options.original = Some(PathBuf::from(argument)),
+        }
+    }
+    Some(options)
+}
+
+fn group(name: &str) -> Option<String> {
+    ["planes", "roller", "map"]
+        .contains(&name)
+        .then(|| name.to_string())
+}
+
+impl Options {
+    fn asks_for(&self, group: &str) -> bool {
+        self.only.as_deref().is_none_or(|only| only == group)
+    }
+}
+
+fn main() -> ExitCode {
+    if std::env::args_os().any(|word| word == "--help" || word == "-h") {
+        println!("{USAGE}");
+        return ExitCode::SUCCESS;
+    }
+    let Some(options) = options() else {
+        eprintln!("{USAGE}");
+        return ExitCode::from(2);
+    };
+    let original = match options.original.as_deref().map(original::load).transpose() {
+        Ok(original) => original,
+        Err(error) => {
+            eprintln!("bench: {error}");
+            return ExitCode::from(2);
+        }
+    };
+    // memory first, while the process has none to give again
+    let memory = Memory::measured(options.side, original);
+    let met = times(&options, original);
+    memory.print();
+    ExitCode::from(!met as u8)
+}
+
+/// Prints the table; whether every target is met.
+fn times(options: &Options, original: Option<Original>) -> bool {
+    table::head();
+    let repetitions = options.repetitions;
+    let mut met = true;
+    let mut print = |rows: Vec<Row>| rows.iter().for_each(|row| met &= table::print(row));
+    if options.asks_for("planes") {
+        for sizes in sizes(options.side) {
+            print(vec![cases::plane(sizes, original, 4 * repetitions)]);
+        }
+    }
+    if options.asks_for("roller") {
+        print(cases::roller(options.roller_side, original, repetitions));
+    }
+    if options.asks_for("map") {
+        print(cases::large_map(options.entries, original, repetitions));
+    }
+    println!();
+    println!("'bytes' are what memcpy copies: those of the planes, otherwise those of the map. The original has no register:");
+    println!("its map is asked for each frame.");
+    met
+}
+
+/// 1 component, the same with padded rows, 2 and 3 components; each with 8, 16 and 32 bits.
+fn sizes(side: u64) -> Vec<Sizes> {
+    let shapes = [(1, 0), (1, 12), (2, 0), (3, 0)];
+    let shaped = |(components, padding)| {
+        [8, 16, 32].map(|bits| {
+            let mut sizes = Sizes::packed(side, side, components, bits);
+            sizes.stride += padding;
+            sizes
+        })
+    };
+    shapes.into_iter().flat_map(shaped).collect()
+}
+
+/// What memory opening a file and reading one plane take, beyond the file and the samples that are lent.
+struct Memory {
+    side: u64,
+    /// Kilobytes, where the system tells them.
+    proved: Option<i64>,
+    original: Option<Option<i64>>,
+    /// Bytes of stack.
+    stack: io::Result<usize>,
+}
+
+impl Memory {
+    fn measured(side: u64, original: Option<Original>) -> Memory {
+        let file = files::one_frame(Sizes::packed(side, side, 3, 16));
+        let mut samples = vec![1; (side * side * 2) as usize];
+        let proved = memory::peak(|| {
+            let reader = Reader::open(&file).expect("it opens");
+            let read = reader.plane_into(0, 0, 1, 0, &mut samples);
+            read.expect("a plane");
+        });
+        let theirs = original.map(|original| {
+            memory::peak(|| {
+                let opened = original.open(&file).expect("it opens");
+                assert!(opened.plane([0, 0, 1, 0]) > 0);
+            })
+        });
+        Memory {
+            side,
+            proved,
+            original: theirs,
+            stack: memory::stack(all_calls(&files::deep())),
+        }
+    }
+
+    fn print(&self) {
+        let told = |peak: Option<i64>| peak.map_or("not told".to_string(), |kb| format!("{kb} kB"));
+        let side = self.side;
+        println!();
+        println!("Memory for opening and one plane of {side} x {side}, 3 components of 16 bits, beyond the file and lent samples:");
+        println!(
+            "  proved    {} (with the table of entries, 12 kB)",
+            told(self.proved)
+        );
+        if let Some(original) = self.original {
+            let plane = side * side * 2 / 1024;
+            println!(
+                "  original  {} (with the plane, {plane} kB)",
+                told(original)
+            );
+        }
+        match &self.stack {
+            Ok(bytes) => println!("  stack     {bytes} bytes in all calls of the proved reader, on a tree of 64 levels too"),
+            Err(error) => println!("  stack     {error}"),
+        }
+    }
+}
+
+/// Every call once, on a file that has a tree as deep as they come.
+fn all_calls(file: &[u8]) -> impl FnMut() + '_ {
+    move || {
+        let reader = Reader::open(file).expect("it opens");
+        assert_eq!(reader.tree(files::DEEP).expect("a tree").len(), 65);
+        assert!(reader.plane(0, 0, 1, 0).is_ok());
+        assert!(reader.channels().is_ok() && reader.register().is_ok());
+    }
+}

@@ -1,0 +1,189 @@
+//! `nd2 info`: what is in a file.
+
+use crate::arguments::Arguments;
+use crate::failure::{Done, Failure};
+use crate::{json, open, text};
+use nd2::{Axis, Channel, Loop, Reader, State, Summary, ZStep};
+use std::ffi::OsStr;
+use std::io::{self, Write};
+
+/// The frames of more than these are not looked up.
+const MOST_FRAMES: u64 = 10_000_000;
+
+struct Info<'f> {
+    path: &'f OsStr,
+    bytes: usize,
+    summary: &'f Summary,
+    channels: Vec<Channel>,
+    /// How many frames the map has, if they were looked up.
+    present: Option<u64>,
+}
+
+pub fn run(mut arguments: Arguments) -> Done {
+    let as_json = arguments.flag("--json");
+    let [path] = arguments.all(["FILE"])?;
+    let file = open::file(&path)?;
+    let reader = open::reader(&path, &file)?;
+    let info = gathered(&path, &reader)?;
+    let mut out = io::BufWriter::new(io::stdout().lock());
+    match as_json {
+        true => writeln!(out, "{}", info.json())?,
+        false => info.print(&mut out)?,
+    }
+    Ok(out.flush()?)
+}
+
+fn gathered<'f>(path: &'f OsStr, reader: &'f Reader) -> Result<Info<'f>, Failure> {
+    let refused = |what: &'static str| {
+        move |refusal| Failure::at(format!("{}: {what}", text::of_os(path)), refusal)
+    };
+    let summary = reader.summary();
+    let present = match summary.frames() <= MOST_FRAMES {
+        true => {
+            let frames = reader.register().map_err(refused("register"))?;
+            Some(frames.iter().filter(|frame| frame.is_present()).count() as u64)
+        }
+        false => None,
+    };
+    Ok(Info {
+        path,
+        bytes: reader.bytes().len(),
+        summary,
+        channels: reader.channels().map_err(refused("channels"))?,
+        present,
+    })
+}
+
+fn axis_name(axis: Axis) -> &'static str {
+    match axis {
+        Axis::T => "times",
+        Axis::Z => "focus steps",
+        Axis::P => "points",
+    }
+}
+
+fn color(channel: &Channel) -> String {
+    match channel.color {
+        Some((red, green, blue)) => format!("#{red:02x}{green:02x}{blue:02x}"),
+        None => "no colour".to_string(),
+    }
+}
+
+impl Info<'_> {
+    fn print(&self, out: &mut impl Write) -> io::Result<()> {
+        let s = self.summary;
+        writeln!(out, "{}", text::of_os(self.path))?;
+        writeln!(out, "  bytes       {}", self.bytes)?;
+        writeln!(
+            out,
+            "  frame       {} x {} samples of {} bits",
+            s.width, s.height, s.bits
+        )?;
+        writeln!(out, "  components  {}", s.components)?;
+        writeln!(out, "  row bytes   {}", s.row_bytes)?;
+        writeln!(out, "  loops       {}", self.loops())?;
+        writeln!(out, "  pixel size  {}", self.pixel_size())?;
+        writeln!(out, "  focus step  {}", self.focus_step())?;
+        for (i, channel) in self.channels.iter().enumerate() {
+            let name = channel.name.as_deref().map(text::shown);
+            let name = name.unwrap_or_else(|| "no name".to_string());
+            writeln!(out, "  channel {i:<3} {name}, {}", color(channel))?;
+        }
+        writeln!(out, "  frames      {}", self.frames())?;
+        writeln!(out, "  planes      {}", s.planes())
+    }
+
+    fn loops(&self) -> String {
+        let one = |l: &Loop| format!("{} {}", l.count, axis_name(l.axis));
+        let loops: Vec<String> = self.summary.loops.iter().map(one).collect();
+        match loops.is_empty() {
+            true => "none".to_string(),
+            false => loops.join(", then "),
+        }
+    }
+
+    fn pixel_size(&self) -> String {
+        match (self.summary.pixel_size, self.summary.state) {
+            (Some((x, y)), _) => format!("{x} x {y} micrometres"),
+            (None, State::Packed) => "in a packed tree, not read".to_string(),
+            (None, _) => "not stated".to_string(),
+        }
+    }
+
+    fn focus_step(&self) -> String {
+        match self.summary.z_step {
+            ZStep::Stated(step) => format!("{step} micrometres"),
+            ZStep::Unstated => "not stated".to_string(),
+            ZStep::Smaller => "below 0.000001 micrometres, not used".to_string(),
+            ZStep::Larger => "above 1000 micrometres, not used".to_string(),
+        }
+    }
+
+    fn frames(&self) -> String {
+        let frames = self.summary.frames();
+        match self.present {
+            Some(present) => format!("{frames}: {present} present, {} absent", frames - present),
+            None => format!("{frames}, too many to look up"),
+        }
+    }
+
+    fn json(&self) -> String {
+        let s = self.summary;
+        let axis = |l: &Loop| json::string(&format!("{:?}", l.axis));
+        let one = |l: &Loop| json::object([("axis", axis(l)), ("count", l.count.to_string())]);
+        json::object([
+            ("file", json::string(&self.path.to_string_lossy())),
+            ("bytes", self.bytes.to_string()),
+            ("width", s.width.to_string()),
+            ("height", s.height.to_string()),
+            ("components", s.components.to_string()),
+            ("bits", s.bits.to_string()),
+            ("row_bytes", s.row_bytes.to_string()),
+            ("loops", json::array(s.loops.iter().map(one))),
+            ("calibration", json::string(calibration(s.state))),
+            ("pixel_size", pixel_size_json(s)),
+            ("z_step", z_step_json(s.z_step)),
+            (
+                "channels",
+                json::array(self.channels.iter().map(channel_json)),
+            ),
+            ("frames", s.frames().to_string()),
+            ("present", json::or_null(self.present)),
+            (
+                "absent",
+                json::or_null(self.present.map(|n| s.frames() - n)),
+            ),
+            ("planes", s.planes().to_string()),
+        ])
+    }
+}
+
+fn calibration(state: State) -> &'static str {
+    match state {
+        State::Unstated => "unstated",
+        State::Stated => "stated",
+        State::Packed => "packed",
+    }
+}
+
+fn pixel_size_json(summary: &Summary) -> String {
+    let both = |(x, y)| json::array([json::float(x), json::float(y)]);
+    summary.pixel_size.map_or_else(json::null, both)
+}
+
+fn z_step_json(step: ZStep) -> String {
+    match step {
+        ZStep::Stated(step) => json::float(step),
+        _ => json::null(),
+    }
+}
+
+fn channel_json(channel: &Channel) -> String {
+    let name = channel
+        .name
+        .as_deref()
+        .map_or_else(json::null, json::string);
+    let parts = |(r, g, b): (u8, u8, u8)| json::array([r, g, b].map(|part| part.to_string()));
+    let color = channel.color.map_or_else(json::null, parts);
+    json::object([("name", name), ("color", color)])
+}

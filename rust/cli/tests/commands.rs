@@ -1,0 +1,248 @@
+//! Each command on files that can be read.
+
+mod common;
+
+use common::json::{parse, Json};
+use common::Folder;
+use sample::roller::sample;
+use sample::{parts, tree, Nd2, Roller};
+
+fn small() -> Roller {
+    Roller {
+        points: 3,
+        steps: 2,
+        lamps: 2,
+        width: 5,
+        height: 4,
+        padding: 6,
+        focus_outside: false,
+        pixel: 0.325,
+        step: 0.5,
+    }
+}
+
+fn with_small() -> Folder {
+    let folder = Folder::new();
+    folder.write("a.nd2", &small().file());
+    folder
+}
+
+/// A file of one frame of 2 x 1 samples, which holds these bytes.
+fn one_frame(bits: u64, rows: &[u8]) -> Vec<u8> {
+    let mut file = Nd2::new();
+    let sizes = parts::Sizes::packed(2, 1, 1, bits);
+    file.add(parts::ATTRIBUTES, &parts::attributes(sizes).encode());
+    file.add(parts::EXPERIMENT, &parts::experiment(&[]).encode());
+    file.add(&parts::frame_name(0), &parts::frame(rows));
+    file.finish()
+}
+
+#[test]
+fn info_tells_sizes_loops_and_channels() {
+    let told = with_small().run(&["info", "a.nd2"]).fine();
+    for part in [
+        "5 x 4 samples of 16 bits",
+        "3 points, then 2 focus steps",
+        "0.325 x 0.325 micrometres",
+        "0.5 micrometres",
+        "lamp 0, #ff0000",
+        "lamp 1, #00ff00",
+        "6: 6 present, 0 absent",
+        "planes      12",
+    ] {
+        assert!(told.contains(part), "{part:?} is not in {told:?}");
+    }
+}
+
+#[test]
+fn info_as_json_is_json_and_tells_the_same() {
+    let told = with_small().run(&["info", "--json", "a.nd2"]).fine();
+    let json = parse(&told).expect("valid JSON");
+    assert_eq!(json.get("file"), &Json::Text("a.nd2".into()));
+    assert_eq!(json.get("width"), &Json::Number(5.0));
+    assert_eq!(json.get("row_bytes"), &Json::Number(26.0));
+    assert_eq!(
+        json.get("loops").items()[0].get("axis"),
+        &Json::Text("P".into())
+    );
+    assert_eq!(
+        json.get("loops").items()[1].get("count"),
+        &Json::Number(2.0)
+    );
+    assert_eq!(json.get("pixel_size").items()[0], Json::Number(0.325));
+    assert_eq!(
+        json.get("channels").items()[1].get("name"),
+        &Json::Text("lamp 1".into())
+    );
+    let color = [0.0, 255.0, 0.0].map(Json::Number);
+    assert_eq!(json.get("channels").items()[1].get("color").items(), color);
+    assert_eq!(json.get("absent"), &Json::Number(0.0));
+}
+
+#[test]
+fn json_is_valid_whatever_names_and_sizes_are() {
+    let folder = Folder::new();
+    let mut file = Nd2::new();
+    let sizes = parts::Sizes::packed(1, 1, 3, 8);
+    file.add(parts::ATTRIBUTES, &parts::attributes(sizes).encode());
+    file.add(parts::EXPERIMENT, &parts::experiment(&[]).encode());
+    file.add(
+        parts::CALIBRATION,
+        &parts::calibration(f64::INFINITY).encode(),
+    );
+    let name = "\"quoted\" \\ \u{1}\u{7f}\n ü \u{1F600}";
+    file.add(
+        parts::CHANNELS,
+        &parts::channels(&[(name, 1), ("", 2)]).encode(),
+    );
+    folder.write("a\"b\\.nd2", &file.finish());
+    let told = folder.run(&["info", "--json", "a\"b\\.nd2"]).fine();
+    let json = parse(&told).expect("valid JSON");
+    assert_eq!(json.get("file"), &Json::Text("a\"b\\.nd2".into()));
+    assert_eq!(json.get("pixel_size").items(), [Json::Null, Json::Null]);
+    let channels = json.get("channels").items();
+    assert_eq!(channels[0].get("name"), &Json::Text(name.into()));
+    assert_eq!(channels[1].get("name"), &Json::Null);
+    assert_eq!(channels[2].get("color"), &Json::Null);
+    assert_eq!(json.get("absent"), &Json::Number(1.0));
+}
+
+#[test]
+fn every_random_file_gives_json_or_a_refusal() {
+    let folder = Folder::new();
+    for seed in 0..60 {
+        folder.write("r.nd2", &sample::random::file(seed));
+        let ran = folder.run(&["info", "--json", "r.nd2"]);
+        match ran.status {
+            0 => assert!(parse(&ran.out).is_some(), "seed {seed}: {}", ran.out),
+            _ => ran.fails(1, &["nd2: r.nd2: ", "("]),
+        }
+    }
+}
+
+#[test]
+fn a_plane_of_16_bits_is_a_big_endian_pgm() {
+    let folder = with_small();
+    let words = [
+        "plane", "a.nd2", "--scene", "2", "--t", "0", "--c", "1", "--z=1", "-o", "p.pgm",
+    ];
+    assert_eq!(folder.run(&words).fine(), "");
+    let mut expected = b"P5\n5 4\n65535\n".to_vec();
+    for (x, y) in (0..4).flat_map(|y| (0..5).map(move |x| (x, y))) {
+        expected.extend_from_slice(&sample(2, 1, 1, x, y).to_be_bytes());
+    }
+    assert_eq!(folder.read("p.pgm"), expected);
+}
+
+#[test]
+fn a_raw_plane_has_the_bytes_of_the_file() {
+    let folder = with_small();
+    let words = [
+        "plane", "-o", "p.raw", "--scene", "1", "--c", "0", "--z", "1", "a.nd2",
+    ];
+    folder.run(&words).fine();
+    let places = (0..4).flat_map(|y| (0..5).map(move |x| (x, y)));
+    let samples = places.map(|(x, y)| sample(1, 1, 0, x, y));
+    let expected: Vec<u8> = samples.flat_map(|s| s.to_le_bytes()).collect();
+    assert_eq!(folder.read("p.raw"), expected);
+}
+
+#[test]
+fn planes_of_8_and_32_bits() {
+    let folder = Folder::new();
+    folder.write("8.nd2", &one_frame(8, &[7, 250]));
+    folder.run(&["plane", "8.nd2", "-o", "8.pgm"]).fine();
+    assert_eq!(folder.read("8.pgm"), b"P5\n2 1\n255\n\x07\xFA");
+    let rows = [1, 2, 3, 4, 5, 6, 7, 8];
+    folder.write("32.nd2", &one_frame(32, &rows));
+    folder.run(&["plane", "32.nd2", "-o", "32.raw"]).fine();
+    assert_eq!(folder.read("32.raw"), rows);
+    let refused = folder.run(&["plane", "32.nd2", "-o", "32.pgm"]);
+    refused.fails(1, &["32.nd2", "32 bits", ".raw"]);
+    assert!(!folder.has("32.pgm"));
+}
+
+#[test]
+fn the_register_has_a_line_for_each_frame() {
+    let folder = Folder::new();
+    let r = Roller {
+        focus_outside: true,
+        ..small()
+    };
+    let mut bytes = r.file();
+    let gone = b"ImageDataSeq|3!";
+    let map = bytes
+        .windows(gone.len())
+        .rposition(|part| part == gone)
+        .unwrap();
+    bytes[map] = b'X';
+    folder.write("a.nd2", &bytes);
+    let told = folder.run(&["register", "a.nd2"]).fine();
+    let rows: Vec<Vec<&str>> = told
+        .lines()
+        .map(|l| l.split_whitespace().collect())
+        .collect();
+    assert_eq!(rows[0], ["frame", "scene", "t", "z", "offset"]);
+    assert_eq!(rows.len(), 7);
+    assert_eq!(rows[4], ["3", "0", "0", "1", "absent"]);
+    assert_eq!(rows[6][..4], ["5", "2", "0", "1"]);
+    let json = parse(&folder.run(&["register", "--json", "a.nd2"]).fine()).expect("valid JSON");
+    assert_eq!(json.items().len(), 6);
+    assert_eq!(json.items()[3].get("offset"), &Json::Null);
+    assert_eq!(json.items()[5].get("scene"), &Json::Number(2.0));
+    let info = folder.run(&["info", "a.nd2"]).fine();
+    assert!(info.contains("6: 5 present, 1 absent"), "{info}");
+}
+
+#[test]
+fn a_tree_is_indented_with_names_and_values() {
+    let folder = Folder::new();
+    let mut file = Nd2::new();
+    file.add(
+        parts::ATTRIBUTES,
+        &parts::attributes(parts::Sizes::packed(1, 1, 1, 8)).encode(),
+    );
+    file.add(parts::EXPERIMENT, &parts::experiment(&[]).encode());
+    let records = vec![
+        tree::flag("yes", 1),
+        tree::i32("below", -3),
+        tree::u64("large", u64::MAX),
+        tree::f64("half", 0.5),
+        tree::text("said", "a\u{1b}b"),
+        tree::level("inner", vec![tree::u32("", 9)]),
+    ];
+    file.add("Spare!", &tree::level("outer", records).encode());
+    folder.write("a.nd2", &file.finish());
+    let expected = "\
+outer
+  yes: flag = true
+  below: i32 = -3
+  large: u64 = 18446744073709551615
+  half: f64 = 0.5
+  said: text = \"a\\u{1b}b\"
+  inner
+    -: u32 = 9
+";
+    assert_eq!(folder.run(&["tree", "a.nd2", "Spare!"]).fine(), expected);
+    assert_eq!(folder.run(&["tree", "a.nd2", "Spare"]).fine(), expected);
+}
+
+#[test]
+fn check_reads_every_plane_and_shows_no_progress_off_a_terminal() {
+    let folder = with_small();
+    let told = folder.run(&["check", "a.nd2", "a.nd2"]).fine();
+    assert_eq!(told, "a.nd2: 12 planes read\na.nd2: 12 planes read\n");
+}
+
+#[test]
+fn the_sample_is_a_whole_roller() {
+    let folder = Folder::new();
+    let told = folder.run(&["sample", "s.nd2"]).fine();
+    assert_eq!(told, "s.nd2: 528 planes of 64 x 64 samples\n");
+    assert_eq!(
+        folder.run(&["check", "s.nd2"]).fine(),
+        "s.nd2: 528 planes read\n"
+    );
+    let info = folder.run(&["info", "s.nd2"]).fine();
+    assert!(info.contains("24 points, then 11 focus steps"), "{info}");
+}

@@ -1,0 +1,47 @@
+//! Reads Nikon ND2 files: uncompressed trees and whole uncompressed planes.
+//!
+//! Every answer comes from the proved reader, through its C interface (`include/nd2.h`); this crate lends it the buffers
+//! and hands out what it wrote as Rust values. Nothing here panics, whatever the file's bytes are: a file that cannot be
+//! read gives a [`Refusal`], which has a number, a trade word and a sentence.
+//!
+//! ```
+//! # fn main() -> Result<(), Box<dyn std::error::Error>> {
+//! # let path = std::env::temp_dir().join(format!("nd2-doc-{}.nd2", std::process::id()));
+//! # std::fs::write(&path, sample::roller(3, 2, 2, 8, 4))?;
+//! let file = nd2::File::open_path(&path)?;
+//! let reader = file.reader()?;
+//! let summary = reader.summary();
+//! println!("{} x {}, {} bits", summary.width, summary.height, summary.bits);
+//! for channel in reader.channels()? {
+//!     println!("{}", channel.name.as_deref().unwrap_or("unnamed"));
+//! }
+//! // point 2, time 0, component 1, focus step 0
+//! let samples = reader.plane(2, 0, 1, 0)?;
+//! assert_eq!(samples.len(), 8 * 4 * 2);
+//! # std::fs::remove_file(&path)?;
+//! # Ok(())
+//! # }
+//! ```
+//!
+//! The file need not be on a disk: [`Reader::open`] takes any bytes.
+
+#![warn(missing_docs)]
+
+mod bytes;
+mod channel;
+mod file;
+pub mod raw;
+mod reader;
+mod refusal;
+mod register;
+mod summary;
+mod text;
+mod tree;
+
+pub use channel::Channel;
+pub use file::File;
+pub use reader::Reader;
+pub use refusal::Refusal;
+pub use register::Frame;
+pub use summary::{Axis, Loop, State, Summary, ZStep};
+pub use tree::{Entry, Tree, Value};

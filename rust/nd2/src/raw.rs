@@ -1,0 +1,180 @@
+//! The C interface as it is (`include/nd2.h`): every call over lent slices, answered by a number.
+//!
+//! 0 is an accepted call, any other number a [`Refusal`](crate::Refusal). On a refusal samples and register keep every
+//! byte, and table, summary and channel records are all zero. [`Reader`](crate::Reader) is made of these calls; they are
+//! for callers that lend their own buffers, and for tests.
+//!
+//! Every `unsafe` block here passes a slice as its pointer and its length. A slice of Rust is never null, lives through the
+//! call, and one that is written overlaps no other: all that the header asks for.
+
+/// Bytes of a summary.
+pub const SUMMARY_BYTES: usize = 144;
+/// Bytes of a channel record.
+pub const CHANNEL_BYTES: usize = 56;
+/// Bytes of an entry of the table.
+pub const ENTRY_BYTES: usize = 48;
+/// Bytes of a frame's record in the register.
+pub const FRAME_BYTES: usize = 24;
+
+mod calls {
+    extern "C" {
+        pub fn nd2_open(
+            file: *const u8,
+            file_len: usize,
+            table: *mut u8,
+            table_len: usize,
+            summary: *mut u8,
+            summary_len: usize,
+        ) -> u32;
+        pub fn nd2_plane(
+            file: *const u8,
+            file_len: usize,
+            summary: *const u8,
+            summary_len: usize,
+            scene: u64,
+            t: u64,
+            c: u64,
+            z: u64,
+            samples: *mut u8,
+            samples_len: usize,
+        ) -> u32;
+        pub fn nd2_tree(
+            file: *const u8,
+            file_len: usize,
+            summary: *const u8,
+            summary_len: usize,
+            name: *const u8,
+            name_len: usize,
+            table: *mut u8,
+            table_len: usize,
+        ) -> u32;
+        pub fn nd2_channels(
+            file: *const u8,
+            file_len: usize,
+            summary: *const u8,
+            summary_len: usize,
+            table: *mut u8,
+            table_len: usize,
+            row: *mut u8,
+            row_len: usize,
+        ) -> u32;
+        pub fn nd2_register(
+            file: *const u8,
+            file_len: usize,
+            summary: *const u8,
+            summary_len: usize,
+            buffer: *mut u8,
+            buffer_len: usize,
+        ) -> u32;
+        pub fn nd2_read_plane(
+            file: *const u8,
+            file_len: usize,
+            table: *mut u8,
+            table_len: usize,
+            scene: u64,
+            t: u64,
+            c: u64,
+            z: u64,
+            samples: *mut u8,
+            samples_len: usize,
+        ) -> u32;
+    }
+}
+
+/// Opens a file and writes its summary, [`SUMMARY_BYTES`] long. The table is all zero afterwards.
+pub fn open(file: &[u8], table: &mut [u8], summary: &mut [u8]) -> u32 {
+    unsafe {
+        calls::nd2_open(
+            file.as_ptr(),
+            file.len(),
+            table.as_mut_ptr(),
+            table.len(),
+            summary.as_mut_ptr(),
+            summary.len(),
+        )
+    }
+}
+
+/// Writes the samples of the plane at scene, t, c and z; later bytes keep what they are.
+pub fn plane(file: &[u8], summary: &[u8], at: [u64; 4], samples: &mut [u8]) -> u32 {
+    let [scene, t, c, z] = at;
+    unsafe {
+        calls::nd2_plane(
+            file.as_ptr(),
+            file.len(),
+            summary.as_ptr(),
+            summary.len(),
+            scene,
+            t,
+            c,
+            z,
+            samples.as_mut_ptr(),
+            samples.len(),
+        )
+    }
+}
+
+/// Writes the entries of the tree of a chunk, and zeros behind them.
+pub fn tree(file: &[u8], summary: &[u8], name: &[u8], table: &mut [u8]) -> u32 {
+    unsafe {
+        calls::nd2_tree(
+            file.as_ptr(),
+            file.len(),
+            summary.as_ptr(),
+            summary.len(),
+            name.as_ptr(),
+            name.len(),
+            table.as_mut_ptr(),
+            table.len(),
+        )
+    }
+}
+
+/// Writes a record for each component, and zeros behind them. The table is all zero afterwards.
+pub fn channels(file: &[u8], summary: &[u8], table: &mut [u8], row: &mut [u8]) -> u32 {
+    unsafe {
+        calls::nd2_channels(
+            file.as_ptr(),
+            file.len(),
+            summary.as_ptr(),
+            summary.len(),
+            table.as_mut_ptr(),
+            table.len(),
+            row.as_mut_ptr(),
+            row.len(),
+        )
+    }
+}
+
+/// Writes the record of each frame; later bytes keep what they are.
+pub fn register(file: &[u8], summary: &[u8], buffer: &mut [u8]) -> u32 {
+    unsafe {
+        calls::nd2_register(
+            file.as_ptr(),
+            file.len(),
+            summary.as_ptr(),
+            summary.len(),
+            buffer.as_mut_ptr(),
+            buffer.len(),
+        )
+    }
+}
+
+/// Opens a file and reads the plane at scene, t, c and z. The table is all zero afterwards.
+pub fn read_plane(file: &[u8], table: &mut [u8], at: [u64; 4], samples: &mut [u8]) -> u32 {
+    let [scene, t, c, z] = at;
+    unsafe {
+        calls::nd2_read_plane(
+            file.as_ptr(),
+            file.len(),
+            table.as_mut_ptr(),
+            table.len(),
+            scene,
+            t,
+            c,
+            z,
+            samples.as_mut_ptr(),
+            samples.len(),
+        )
+    }
+}

@@ -1,0 +1,242 @@
+//! The calls, over the bytes of one file.
+
+use crate::channel::Channel;
+use crate::raw::{self, CHANNEL_BYTES, ENTRY_BYTES, FRAME_BYTES, SUMMARY_BYTES};
+use crate::refusal::Refusal;
+use crate::register::Frame;
+use crate::summary::Summary;
+use crate::tree::Tree;
+use std::fmt;
+
+/// The entries of the first table that is lent; it doubles while it is too short.
+const FIRST_ENTRIES: usize = 256;
+
+/// An opened file. It borrows the file's bytes, which may be mapped from a disk ([`File`](crate::File)) or stand
+/// anywhere in memory, and may be used from several threads.
+#[derive(Clone)]
+pub struct Reader<'a> {
+    file: &'a [u8],
+    laid: [u8; SUMMARY_BYTES],
+    summary: Summary,
+    /// Bytes of a table that was enough for opening.
+    room: usize,
+}
+
+impl<'a> Reader<'a> {
+    /// Opens a file, given its bytes.
+    ///
+    /// # Errors
+    ///
+    /// 1 to 5 where it is no ND2 file or its map cannot be read, 6 to 11 where a tree that is needed cannot be, 12 to 17
+    /// where it holds what is not read, and 18 where there is no memory for the entries of a tree.
+    ///
+    /// ```
+    /// let bytes = sample::roller(24, 11, 2, 4, 4);
+    /// let reader = nd2::Reader::open(&bytes)?;
+    /// assert_eq!(reader.summary().planes(), 528);
+    /// # Ok::<(), nd2::Refusal>(())
+    /// ```
+    pub fn open(file: &'a [u8]) -> Result<Reader<'a>, Refusal> {
+        let mut laid = [0; SUMMARY_BYTES];
+        let first = FIRST_ENTRIES * ENTRY_BYTES;
+        let table = with_table(file, first, |table| raw::open(file, table, &mut laid))?;
+        Ok(Reader {
+            file,
+            laid,
+            summary: Summary::read(&laid),
+            room: table.len(),
+        })
+    }
+
+    /// What opening told of the file.
+    pub fn summary(&self) -> &Summary {
+        &self.summary
+    }
+
+    /// The file's bytes.
+    pub fn bytes(&self) -> &'a [u8] {
+        self.file
+    }
+
+    /// The samples of component `c` at a point, a time and a focus step: width × height of them, row by row without
+    /// padding, their bytes as in the file (little-endian).
+    ///
+    /// # Errors
+    ///
+    /// 21 for an index that is not below its count, 22 for a plane that is too large, 23 where the file does not have the
+    /// frame, 4 and 24 where the frame cannot be read.
+    ///
+    /// ```
+    /// let bytes = sample::roller(24, 11, 2, 4, 4);
+    /// let reader = nd2::Reader::open(&bytes)?;
+    /// assert_eq!(reader.plane(23, 0, 1, 10)?.len(), 4 * 4 * 2);
+    /// assert_eq!(reader.plane(24, 0, 1, 10), Err(nd2::Refusal::INDEX));
+    /// # Ok::<(), nd2::Refusal>(())
+    /// ```
+    pub fn plane(&self, scene: u64, t: u64, c: u64, z: u64) -> Result<Vec<u8>, Refusal> {
+        let mut samples = vec![0; self.plane_room()];
+        self.plane_into(scene, t, c, z, &mut samples)?;
+        Ok(samples)
+    }
+
+    /// The bytes that a plane needs, or 0 where no plane of that size lies in the file. Such a plane is refused before
+    /// its buffer is looked at.
+    fn plane_room(&self) -> usize {
+        let bytes = usize::try_from(self.summary.plane_bytes());
+        bytes
+            .ok()
+            .filter(|&bytes| bytes <= self.file.len())
+            .unwrap_or(0)
+    }
+
+    /// The same into a buffer of at least [`Summary::plane_bytes`] bytes; later bytes keep what they are, and on a
+    /// refusal all of them do.
+    ///
+    /// # Errors
+    ///
+    /// As [`plane`](Reader::plane), and 25 where the buffer is too short.
+    pub fn plane_into(
+        &self,
+        scene: u64,
+        t: u64,
+        c: u64,
+        z: u64,
+        samples: &mut [u8],
+    ) -> Result<(), Refusal> {
+        Refusal::of_call(raw::plane(self.file, &self.laid, [scene, t, c, z], samples))
+    }
+
+    /// The channels, one for each component. One that the file does not describe has neither name nor colour.
+    ///
+    /// # Errors
+    ///
+    /// 18 where there is no memory for the entries of the tree.
+    pub fn channels(&self) -> Result<Vec<Channel>, Refusal> {
+        let bytes = records(self.summary.components, CHANNEL_BYTES);
+        let mut row = bytes.and_then(zeroed).ok_or(Refusal::CHANNEL_ROW)?;
+        with_table(self.file, self.room, |table| {
+            raw::channels(self.file, &self.laid, table, &mut row)
+        })?;
+        Ok(Channel::read_all(self.file, &row))
+    }
+
+    /// Every frame that the loops make, in order of its number, with its place in the file where the map has it.
+    ///
+    /// # Errors
+    ///
+    /// 25 where there is no memory for so many frames ([`Summary::frames`]).
+    pub fn register(&self) -> Result<Vec<Frame>, Refusal> {
+        let bytes = records(self.summary.frames(), FRAME_BYTES);
+        let mut buffer = bytes.and_then(zeroed).ok_or(Refusal::BUFFER)?;
+        self.register_into(&mut buffer)?;
+        let mut frames = Vec::new();
+        let count = buffer.len() / FRAME_BYTES;
+        frames
+            .try_reserve_exact(count)
+            .map_err(|_| Refusal::BUFFER)?;
+        frames.extend(buffer.chunks_exact(FRAME_BYTES).map(Frame::read));
+        Ok(frames)
+    }
+
+    /// The register as the core writes it, 24 bytes a frame, into a buffer: scene, t, z and state as u32 (0 in the map, 1
+    /// absent), then the offset as u64, all little-endian. Later bytes keep what they are, on a refusal all of them.
+    ///
+    /// # Errors
+    ///
+    /// 25 where the buffer is too short.
+    pub fn register_into(&self, buffer: &mut [u8]) -> Result<(), Refusal> {
+        Refusal::of_call(raw::register(self.file, &self.laid, buffer))
+    }
+
+    /// The tree of a chunk. Names end in `!`, as `ImageAttributesLV!`.
+    ///
+    /// # Errors
+    ///
+    /// 11 where the map has no such chunk, 4 where it is no chunk, 6 to 10 where the tree cannot be read, and 18 where
+    /// there is no memory for its entries.
+    ///
+    /// ```
+    /// let bytes = sample::roller(24, 11, 2, 4, 4);
+    /// let reader = nd2::Reader::open(&bytes)?;
+    /// let tree = reader.tree("ImageAttributesLV!")?;
+    /// let width = tree.find(&["SLxImageAttributes", "uiWidth"]);
+    /// assert_eq!(width.map(|entry| entry.value()), Some(nd2::Value::U64(4)));
+    /// # Ok::<(), nd2::Refusal>(())
+    /// ```
+    pub fn tree(&self, name: impl AsRef<[u8]>) -> Result<Tree<'a>, Refusal> {
+        let name = name.as_ref();
+        let table = with_table(self.file, self.room, |table| {
+            raw::tree(self.file, &self.laid, name, table)
+        })?;
+        Ok(Tree::new(self.file, table))
+    }
+}
+
+impl fmt::Debug for Reader<'_> {
+    fn fmt(&self, f: &mut fmt::Formatter<'_>) -> fmt::Result {
+        let mut out = f.debug_struct("Reader");
+        out.field("bytes", &self.file.len());
+        out.field("summary", &self.summary).finish()
+    }
+}
+
+/// The bytes of so many records.
+fn records(count: u64, bytes: usize) -> Option<usize> {
+    usize::try_from(count).ok()?.checked_mul(bytes)
+}
+
+/// So many bytes of zero, if there is memory for them.
+fn zeroed(len: usize) -> Option<Vec<u8>> {
+    let mut bytes = Vec::new();
+    bytes.try_reserve_exact(len).ok()?;
+    bytes.resize(len, 0);
+    Some(bytes)
+}
+
+/// Calls with a table of at least `first` bytes, and with twice as many while it is too short and more can be of use: two
+/// bytes of a tree make at most one entry.
+fn with_table(
+    file: &[u8],
+    first: usize,
+    mut call: impl FnMut(&mut [u8]) -> u32,
+) -> Result<Vec<u8>, Refusal> {
+    let most = (file.len() / 2).saturating_mul(ENTRY_BYTES);
+    let mut len = first.min(most);
+    loop {
+        let mut table = zeroed(len).ok_or(Refusal::TABLE)?;
+        match Refusal::of_call(call(&mut table)) {
+            Ok(()) => return Ok(table),
+            Err(Refusal::TABLE) if len < most => len = len.saturating_mul(2).min(most),
+            Err(refusal) => return Err(refusal),
+        }
+    }
+}
+
+#[cfg(test)]
+mod tests {
+    use super::*;
+
+    #[test]
+    fn the_table_doubles_up_to_what_can_be_of_use() {
+        let file = [0; 100];
+        let mut lent = Vec::new();
+        let refused = with_table(&file, 480, |table| {
+            lent.push(table.len());
+            Refusal::TABLE.number()
+        });
+        assert_eq!(refused, Err(Refusal::TABLE));
+        assert_eq!(lent, [480, 960, 1920, 2400]);
+    }
+
+    #[test]
+    fn a_file_of_one_byte_gets_a_table_of_none() {
+        let table = with_table(&[0], 480, |table| table.len() as u32);
+        assert_eq!(table, Ok(Vec::new()));
+    }
+
+    #[test]
+    fn what_there_is_no_memory_for_is_none() {
+        assert_eq!(zeroed(usize::MAX), None);
+        assert_eq!(records(u64::MAX, 24), None);
+    }
+}
