@@ -2,22 +2,22 @@
 // of the answer and a checksum of all that was lent for it. rust/replay writes the steps and, from the second implementation, what has to be
 // printed; rust/replay/src/step.rs says how a step is stored.
 use border::nd2_read_plane;
-use channels::channel;
+use capi::nd2_channels;
 use cursor::le4;
 use cursor::le8;
 use format::Axis;
 use format::Loop;
 use format::Range;
 use format::Summary;
+use layout::put_summary;
 use libc::STDOUT_FILENO;
 use open::open;
 use plane::plane;
 use register::register;
 use sum::fold_bytes;
-use sum::fold_channel;
 use sum::fold_summary;
 use tree_call::tree;
-ghost use Prim.Native.Nat.{_+_, _^_, _≤_, _<_};
+ghost use Prim.Native.Nat.{_+_, _≤_};
 ghost use lib.ListN.{length};
 
 mod sum; // checksums
@@ -49,7 +49,7 @@ const MOST: usize = 65_536;
 // What lent bytes hold before a call.
 const FILL: u8 = 0xA5;
 
-// One step: its kind, the bytes that follow it, the bytes that are lent as a table and as a buffer (for channels: the records of the row), and a point.
+// One step: its kind, the bytes that follow it, the bytes that are lent as a table and as a buffer or a row, and a point.
 struct Step {
     kind: u64,
     size: usize,
@@ -186,26 +186,12 @@ fn ask_border(file: &[u8], q: Step, table: &mut [u8], buffer: &mut [u8]) {
     show(b"border ", n, fold_bytes(fold_bytes(0, table), buffer));
 }
 
-// The records of a row, one after the other, each with the call's number.
-fn fold_row(file: &[u8], u: Summary, table: &mut [u8], row: usize) -> u64
-    ensures { λ r. ⌜ r < 2 ^ 32 ⌝ }
-{
-    let mut sum = 0;
-    let mut i = 0;
-    while i < row {
-        fill(table);
-        let one = channel(file, u, table, row, i);
-        let c = one.channel;
-        sum = fold_channel(sum, one.number, c);
-        i += 1;
-    }
-    sum
-}
-
-fn ask_channels(file: &[u8], u: Summary, table: &mut [u8], row: usize) {
-    let one = channel(file, u, table, row, 0);
-    let sum = fold_row(file, u, table, row);
-    show(b"channels ", one.number, fold_bytes(sum, table));
+// The channels, as the C interface has them: summary and records are lent bytes.
+fn ask_channels(file: &[u8], u: Summary, table: &mut [u8], row: &mut [u8]) {
+    let mut summary = [0u8; 144];
+    put_summary(&mut summary, u);
+    let n = nd2_channels(file, &summary, table, row);
+    show(b"channels ", n, fold_bytes(fold_bytes(0, row), table));
 }
 
 // The question of a step, over what is lent to it. The summary afterwards is the one that opening gave, if that was asked.
@@ -237,7 +223,7 @@ fn ask(
         return u;
     }
     if q.kind == CHANNELS {
-        ask_channels(file, u, table, q.buffer);
+        ask_channels(file, u, table, buffer);
         return u;
     }
     u

@@ -1,7 +1,6 @@
 // A checksum of numbers and bytes: times 1,000,003 plus each number and 1, modulo the largest prime below 2^32.
 use cursor::wide;
 use format::Axis;
-use format::Channel;
 use format::Loop;
 use format::Summary;
 use number::single_bits;
@@ -97,16 +96,4 @@ pub fn fold_summary(u: Summary) -> u64
     let d = fold_sizes(fold_number(c, u.depth), u);
     let e = fold_number(d, u.map.start);
     fold_calibration(fold_number(e, u.map.len), u)
-}
-
-// A call's number and the numbers of a channel, in the order of its fields.
-pub fn fold_channel(sum: u64, number: u32, c: Channel) -> u64
-    requires { ⌜ sum < 2 ^ 32 ⌝ }
-    ensures { λ r. ⌜ r < 2 ^ 32 ⌝ }
-{
-    let a = fold_number(sum, number as u64);
-    let b = fold_number(fold_number(a, c.named), c.name);
-    let d = fold_number(fold_number(b, c.units), c.colored);
-    let e = fold_number(fold_number(d, c.red), c.green);
-    fold_number(e, c.blue)
 }

@@ -1,12 +1,15 @@
 //! What the second implementation answers: a line for each question, of the call's name, its number and a checksum of
-//! every lent byte afterwards. Before these come an opening's summary, and of channels each record of the row, with the
-//! call's number before it.
+//! every lent byte afterwards, an opening's with the numbers of its summary before them. A row of channels is bytes, as
+//! in the C interface: as many records of seven u64 as fit, zeros behind them.
 
 use crate::step::{numbers, Step};
 use second::{Channel, Summary};
 
 /// What lent bytes hold before a call.
 const FILL: u8 = 0xA5;
+
+/// The bytes of one channel in a lent row.
+pub const CHANNEL_BYTES: usize = 56;
 
 /// A checksum: times 1,000,003 plus each number and 1, modulo the largest prime below 2^32.
 #[derive(Default)]
@@ -33,12 +36,6 @@ impl Sum {
         let calibration = [s.calibration, x, y, s.class, z];
         let all = numbers(s).into_iter().chain(calibration);
         all.for_each(|n| self.number(n));
-    }
-
-    fn channel(&mut self, number: u32, c: &Channel) {
-        let name = [number as u64, c.named, c.name, c.units];
-        let color = [c.colored, c.red, c.green, c.blue];
-        name.into_iter().chain(color).for_each(|n| self.number(n));
     }
 }
 
@@ -84,7 +81,7 @@ impl State {
             Step::Tree { name, table } => return Some(self.tree(name, *table)),
             Step::Register { buffer } => return Some(self.register(*buffer)),
             Step::Border { at, table, buffer } => return Some(self.border(*at, *table, *buffer)),
-            Step::Channels { table, row } => return Some(self.channels(*table, *row)),
+            Step::Channels { table, buffer } => return Some(self.channels(*table, *buffer)),
         }
         None
     }
@@ -130,22 +127,16 @@ impl State {
         Answer::new("border", number, &[&table, &samples])
     }
 
-    fn channels(&self, table: usize, row: usize) -> Answer {
+    fn channels(&self, table: usize, buffer: usize) -> Answer {
         let mut table = lent(table);
-        let filled = Channel {
-            named: 9,
-            blue: 9,
-            ..Channel::default()
-        };
-        let mut row = vec![filled; row];
+        let mut row = vec![Channel::default(); buffer / CHANNEL_BYTES];
         let number = second::channels(&self.file, &self.summary, &mut table, &mut row);
-        let mut sum = Sum::default();
-        row.iter().for_each(|c| sum.channel(number, c));
-        sum.bytes(&table);
-        Answer {
-            call: "channels",
-            number,
-            sum,
-        }
+        let numbers = row.iter().flat_map(|c| {
+            let name = [c.named, c.name, c.units];
+            name.into_iter().chain([c.colored, c.red, c.green, c.blue])
+        });
+        let mut bytes: Vec<u8> = numbers.flat_map(u64::to_le_bytes).collect();
+        bytes.resize(buffer, 0);
+        Answer::new("channels", number, &[&bytes, &table])
     }
 }

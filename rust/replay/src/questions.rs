@@ -1,5 +1,6 @@
 //! The questions about one file.
 
+use crate::answer::CHANNEL_BYTES;
 use crate::step::{Step, MOST_BYTES};
 use plan::{Plan, TREES};
 use sample::Rng;
@@ -10,7 +11,7 @@ use second::{Channel, Summary};
 /// Buffers of more bytes than this are asked with few.
 const MOST_BUFFER: u128 = 8_192;
 const FEW: usize = 24;
-/// Rows of more records are asked with two.
+/// Rows of more records are asked with none.
 const MOST_ROW: usize = 8;
 /// The bytes of a table that nothing is written to.
 const UNUSED: usize = 53;
@@ -165,19 +166,26 @@ fn tree_name(rng: &mut Rng) -> Vec<u8> {
 fn channels(rng: &mut Rng, file: &[u8], plan: &Plan) -> Vec<Step> {
     let components = plan.summary.components as usize;
     if components > MOST_ROW {
-        return vec![Step::Channels { table: 0, row: 2 }];
+        return vec![Step::Channels {
+            table: UNUSED,
+            buffer: FEW,
+        }];
     }
     let table = for_channels(file, &plan.summary, components);
-    let row = components + rng.pick(&[0, 2]);
-    let mut steps = vec![Step::Channels { table, row }];
-    if rng.one_in(2) || table == UNUSED {
-        let row = components - 1;
-        steps.push(Step::Channels { table, row });
+    let enough = CHANNEL_BYTES * components;
+    let buffer = enough + rng.pick(&[0, 5, 2 * CHANNEL_BYTES]);
+    let short = if rng.one_in(2) || table == UNUSED {
+        Step::Channels {
+            table,
+            buffer: enough - 1,
+        }
     } else {
-        let table = table - 1;
-        steps.push(Step::Channels { table, row });
-    }
-    steps
+        Step::Channels {
+            table: table - 1,
+            buffer,
+        }
+    };
+    vec![Step::Channels { table, buffer }, short]
 }
 
 /// The register with a buffer that is just enough, or long, and with one that is a byte short.
@@ -200,7 +208,7 @@ fn any(summary: Summary) -> [Step; 4] {
         },
         Step::Channels {
             table: 20 * ENTRY_BYTES,
-            row: summary.components.min(2) as usize,
+            buffer: CHANNEL_BYTES * summary.components.min(2) as usize,
         },
         Step::Register { buffer: 24 * 30 },
     ]

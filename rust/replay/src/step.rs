@@ -5,7 +5,7 @@
 //! | u32 | the kind, from 1 in the order of `Step` |
 //! | u32 | the bytes that follow the step |
 //! | u32 | the bytes that are lent as a table |
-//! | u32 | the bytes that are lent as samples or as a register, or the records of a row of channels |
+//! | u32 | the bytes that are lent as samples, as a register or as a row of channels |
 //! | u64 × 4 | scene, t, c and z |
 //! | | what follows: a label's text, a file, a summary, a tree's name |
 //!
@@ -44,7 +44,7 @@ pub enum Step {
     },
     Channels {
         table: usize,
-        row: usize,
+        buffer: usize,
     },
 }
 
@@ -141,7 +141,7 @@ impl Step {
             6 => Step::Tree { name: rest, table },
             7 => Step::Register { buffer },
             8 => Step::Border { at, table, buffer },
-            9 => Step::Channels { table, row: buffer },
+            9 => Step::Channels { table, buffer },
             _ => return None,
         })
     }
@@ -156,7 +156,7 @@ impl Step {
             Step::Tree { table, .. } => (6, table, 0, [0; 4]),
             Step::Register { buffer } => (7, 0, buffer, [0; 4]),
             Step::Border { at, table, buffer } => (8, table, buffer, at),
-            Step::Channels { table, row } => (9, table, row, [0; 4]),
+            Step::Channels { table, buffer } => (9, table, buffer, [0; 4]),
         };
         Head {
             kind,
