@@ -1,6 +1,6 @@
 /* The proved ND2 reader, for C.
  *
- * Link with libcapi.a (`rt staticlib capi` writes target/staticlib/libcapi.a). Nothing is allocated and nothing is kept between calls: every
+ * Link with libcapi.a and, for nd2_read_plane, libborder.a (`rt staticlib capi` and `rt staticlib border` write them to target/staticlib). Nothing is allocated and nothing is kept between calls: every
  * buffer is lent by the caller, and a call may be made from any thread. A slice is a pointer and a length in bytes; an empty one may have any
  * pointer that is not null. The buffers of one call may not overlap where one of them is written. All numbers in buffers are little-endian.
  *
