@@ -31,7 +31,7 @@ ghost use Rattle.named_tree.specs.Named.{treeUnder};
 ghost use Rattle.channels.specs.Ahead.{ahead, Stands, Follows, noPlanes};
 ghost use Rattle.channels.specs.Ready.{Ready, IsBroken};
 
-pub mod record; // the record of one plane
+mod record; // the record of one plane
 pub mod planes; // a walk over the planes
 
 // The number of a call that is accepted, and the plane records; else the number of a refusal, and no records.

@@ -10,6 +10,7 @@ use format::Range;
 use format::Summary;
 use number::single_bits;
 use number::single_of;
+use summary::axis_number;
 ghost use mathlib.Core.Path.{_≡_};
 ghost use mathlib.Core.Option.{some};
 ghost use Prim.Native.Nat.{ℕ, _+_, _*_, _^_, _≤_, _<_};
@@ -17,7 +18,6 @@ ghost use lib.ListN.{length, getD};
 ghost use lib.Seq.{sets};
 ghost use lib.Ieee.{binary32, ofBits};
 ghost use Rattle.format.specs.Bytes.{leBytes};
-ghost use Rattle.format.specs.Loops.{axisNumber};
 ghost use Rattle.layout.specs.Layout.{word, single, wordsOf, axisFrom, loopFrom, summaryIn, ofLayout, summaryFrom, laidOf, channelBytes};
 
 // The bytes of a summary.
@@ -168,16 +168,6 @@ fn put_single(b: &mut [u8], at: usize, x: f32)
     ensures { λ _. ⌜ ((n : ℕ) × (n < 2 ^ 32) × (ofBits binary32 n ≡ x) × (now (b .exit) ≡ sets (now (b .entry)) at (leBytes 4 n))) ⌝ }
 {
     put4(b, at, single_bits(x) as u64);
-}
-
-fn axis_number(a: Axis) -> u64
-    ensures { λ r. ⌜ r ≡ axisNumber a ⌝ }
-{
-    match a {
-        Axis::T => 0,
-        Axis::Z => 1,
-        Axis::P => 2,
-    }
 }
 
 // The first sixteen words of a summary.

@@ -32,7 +32,7 @@ ghost use Rattle.format.specs.Demands.{Refuses, None};
 ghost use Rattle.chunk.specs.Scan.{entryAt};
 ghost use Rattle.register.specs.Taking.{Taken};
 
-pub mod naming; // the frames that names are of
+mod naming; // the frames that names are of
 
 // The number of a register that is accepted.
 const ACCEPTED: u32 = 0;

@@ -52,7 +52,8 @@ fn loop_at(u: Summary, i: usize) -> Loop
     u.loops[i]
 }
 
-fn axis_number(a: Axis) -> u64
+// The number of an axis.
+pub fn axis_number(a: Axis) -> u64
     ensures { λ r. ⌜ r ≡ axisNumber a ⌝ }
 {
     match a {
