@@ -2,7 +2,7 @@
  *
  *   damaged FILE ROUNDS SEED
  *
- * FILE is a good file (`nd2 sample` writes one). Each round damages a copy of it, and asks open, plane, tree, channels, register and the border call, with
+ * FILE is a good file of less than a megabyte, as `cargo run -p sample --example roller -- FILE 24 11 2 8 8` in rust/ writes one. Each round damages a copy of it, and asks open, plane, tree, channels, register and the border call, with
  * summaries that were opened and with damaged ones, and with buffers of random lengths. A call that reads or writes past a buffer ends the program by a signal;
  * built with -fsanitize=address the program's own side is watched too. Exit status 0: nothing found.
  */
@@ -247,6 +247,10 @@ int main(int argc, char **argv)
     }
     size_t len = fread(bytes, 1, sizeof bytes, f);
     fclose(f);
+    if (len == sizeof bytes) {
+        fprintf(stderr, "damaged: %s has a megabyte or more\n", argv[1]);
+        return 2;
+    }
     seed = strtoull(argv[3], NULL, 10);
     state = seed * 2 + 1;
     file = new_lent(), table = new_lent(), summary = new_lent(), samples = new_lent(), name = new_lent();
