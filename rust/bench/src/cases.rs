@@ -3,7 +3,7 @@
 use crate::files;
 use crate::original::{Opened, Original};
 use crate::table::{Row, Target};
-use crate::timing::{race, turn, Best, Who};
+use crate::timing::{race, race_in_a_row, turn, Best, Who};
 use nd2::Reader;
 use sample::parts::Sizes;
 use second::Summary;
@@ -78,8 +78,8 @@ impl<'f> Case<'f> {
         }
     }
 
-    /// One plane. `source` is what memcpy copies.
-    fn plane(&self, at: [u64; 4], repetitions: u32, source: &[u8]) -> Best {
+    /// One plane, so often in a row. `source` is what memcpy copies.
+    fn plane(&self, at: [u64; 4], in_a_row: u32, repetitions: u32, source: &[u8]) -> Best {
         self.agrees(at);
         let buffer = || vec![1u8; self.plane_bytes()];
         let (mut proved, mut second) = (buffer(), buffer());
@@ -97,7 +97,7 @@ impl<'f> Case<'f> {
                 .as_ref()
                 .and_then(|o| turn(move || assert!(o.plane(at) > 0))),
         ];
-        race(repetitions, 1, turns)
+        race_in_a_row(in_a_row, repetitions, 1, turns)
     }
 
     /// Opening. memcpy copies the map.
@@ -155,8 +155,9 @@ impl<'f> Case<'f> {
     }
 }
 
-/// A plane of a file of one frame: its last component.
-pub fn plane(sizes: Sizes, original: Option<Original>, repetitions: u32) -> Row {
+/// A plane of a file of one frame: its last component. Where memcpy is the target, also with the plane's bytes in the
+/// cache: the target is judged both ways.
+pub fn plane(sizes: Sizes, original: Option<Original>, repetitions: u32) -> Vec<Row> {
     let file = files::one_frame(sizes);
     let case = Case::new(&file, original);
     let bytes = case.plane_bytes();
@@ -166,16 +167,23 @@ pub fn plane(sizes: Sizes, original: Option<Original>, repetitions: u32) -> Row 
         true => ", padded rows",
         false => "",
     };
-    Row {
+    let row = |in_a_row, how: &str| Row {
         what: format!(
-            "plane, {} of {} bits{padded}",
+            "plane, {} of {} bits{padded}{how}",
             components(sizes.components),
             sizes.bits
         ),
         bytes,
-        best: case.plane(at, repetitions, &file[start..start + bytes]),
+        best: case.plane(at, in_a_row, repetitions, &file[start..start + bytes]),
         target: plane_target(sizes, padded.is_empty()),
+    };
+    let mut rows = vec![row(1, "")];
+    if let Some(Target { against, .. }) = rows[0].target {
+        if matches!(against, Who::Memcpy) {
+            rows.push(row(3, ", in a row"));
+        }
     }
+    rows
 }
 
 fn components(count: u64) -> String {
@@ -299,7 +307,7 @@ pub fn large_map(entries: usize, original: Option<Original>, repetitions: u32) -
         target: None,
     };
     let opened = case.open(original, repetitions, 1);
-    let plane = case.plane(last, repetitions, map);
+    let plane = case.plane(last, 1, repetitions, map);
     let register = case.register(repetitions, 1);
     vec![
         row(format!("open a map of {entries} entries"), opened),

@@ -116,7 +116,7 @@ fn times(options: &Options, original: Option<Original>) -> bool {
     let mut print = |rows: Vec<Row>| rows.iter().for_each(|row| met &= table::print(row));
     if options.asks_for("planes") {
         for sizes in sizes(options.side) {
-            print(vec![cases::plane(sizes, original, 4 * repetitions)]);
+            print(cases::plane(sizes, original, 4 * repetitions));
         }
     }
     if options.asks_for("roller") {
@@ -194,7 +194,7 @@ impl Memory {
             );
         }
         match &self.stack {
-            Ok(bytes) => println!("  stack     {bytes} bytes in all calls of the proved reader, on a tree of 64 levels too"),
+            Ok(bytes) => println!("  stack     {bytes} bytes in the five calls that the Rust library makes, on a tree of 64 levels too; the border call is not in it"),
             Err(error) => println!("  stack     {error}"),
         }
     }

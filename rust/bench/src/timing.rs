@@ -23,17 +23,19 @@ pub fn turn<'a>(once: impl FnMut() + 'a) -> Turn<'a> {
     Some(Box::new(once))
 }
 
-/// So often a contender goes in a row, so that the best time of each is one with its bytes in the cache.
-const IN_A_ROW: u32 = 3;
-
 /// Lets all contenders take turns, `repetitions` times after a first one that does not count, each turn `batch` times
 /// over; gives the best time of each.
-pub fn race(repetitions: u32, batch: u32, mut turns: [Turn; 4]) -> Best {
+pub fn race(repetitions: u32, batch: u32, turns: [Turn; 4]) -> Best {
+    race_in_a_row(1, repetitions, batch, turns)
+}
+
+/// The same, where each contender goes so often in a row: from the second time on its bytes may be in the cache.
+pub fn race_in_a_row(in_a_row: u32, repetitions: u32, batch: u32, mut turns: [Turn; 4]) -> Best {
     let mut best: Best = [None; 4];
     for repetition in 0..=repetitions {
         for (turn, best) in turns.iter_mut().zip(&mut best) {
             let Some(once) = turn else { continue };
-            for _ in 0..IN_A_ROW {
+            for _ in 0..in_a_row {
                 let seconds = timed(batch, once);
                 if repetition > 0 {
                     *best = Some(best.map_or(seconds, |best| best.min(seconds)));

@@ -1,10 +1,10 @@
 //! Every length of table around what is needed: the proved reader and the second implementation answer the same number
 //! and leave the same bytes in the table.
 
-use nd2::raw::{self, ENTRY_BYTES, SUMMARY_BYTES};
+use nd2::raw::{self, CHANNEL_BYTES, ENTRY_BYTES, SUMMARY_BYTES};
 use sample::random;
 use second::refusal::TABLE;
-use second::Summary;
+use second::{Channel, Summary};
 
 const FILES: u64 = 300;
 const NAMES: [&[u8]; 4] = [
@@ -65,6 +65,22 @@ fn trees(file: &[u8], summary: &Summary, laid: &[u8], what: &str) -> usize {
     NAMES.iter().map(one).sum()
 }
 
+/// The records of the row are held against each other by `compare`; here the number and the table.
+fn channels(file: &[u8], summary: &Summary, laid: &[u8], what: &str) -> usize {
+    let records = summary.components as usize;
+    let second = |len| {
+        let mut row = vec![Channel::default(); records];
+        answer(len, |table| {
+            second::channels(file, summary, table, &mut row)
+        })
+    };
+    let proved = |len| {
+        let mut row = lent(records * CHANNEL_BYTES);
+        answer(len, |table| raw::channels(file, laid, table, &mut row))
+    };
+    around(second, proved, what)
+}
+
 #[test]
 fn every_length_around_what_is_needed() {
     let (mut opened, mut read) = (0, 0);
@@ -81,6 +97,7 @@ fn every_length_around_what_is_needed() {
             0
         );
         read += trees(&file, &summary, &laid, &what);
+        read += channels(&file, &summary, &laid, &what);
     }
     assert!(
         opened > 10_000 && read > 10_000,
