@@ -16,6 +16,7 @@ fn every_case_is_in_the_table() {
     assert!(matches!(output.status.code(), Some(0 | 1)), "{told}");
     for part in [
         "plane, 1 component of 16 bits ",
+        "plane, 1 component of 16 bits, in a row",
         "plane, 1 component of 32 bits, padded rows",
         "plane, 3 components of 8 bits",
         "open a roller, 4 x 4",
@@ -24,7 +25,7 @@ fn every_case_is_in_the_table() {
         "open a map of 100 entries",
         "register of 98 frames",
         "0.5 x original: not run",
-        "bytes in all calls of the proved reader",
+        "bytes in the five calls that the Rust library makes",
     ] {
         assert!(told.contains(part), "{part:?} is not in {told}");
     }
