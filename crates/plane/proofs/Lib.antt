@@ -1,4 +1,5 @@
 pub mod Rows
+pub mod Parts
 pub mod Finding
 pub mod Samples
 pub mod Promises

@@ -57,6 +57,12 @@ unfolding pieces part
 pieces-joined s at size zero = rw zero-mul refl
 pieces-joined s at size (suc k) = rw (pieces-joined s at size k, suc-mul) (part-join s at (k * size) size)
 
+-- so they are copied at once to the front of d
+pub pieces-once : (s d q : List ℕ) (w step k : ℕ) → w ≡ step → k * w ≤ length s → q ≡ part s 0 (k * w) → q ++ drop (k * w) d ≡ over (pieces s 0 step w k) d
+unfolding over
+pieces-once s d q w step k e h eq =
+    rw (← e, pieces-joined s 0 w k, part-length s 0 (k * w) (omega arith), eq) refl
+
 -- ---- rows
 
 module _ (s : List ℕ) (at stride step size width : ℕ) (apart : at + size ≤ step) (inside : width * step ≤ stride) where

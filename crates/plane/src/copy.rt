@@ -4,6 +4,13 @@ ghost use Prim.Native.Nat.{_+_, _*_, _≤_};
 ghost use lib.ListN.{length};
 ghost use Rattle.format.specs.Bytes.{over};
 ghost use Rattle.plane.specs.Pieces.{pieces, rows};
+ghost use Rattle.plane.specs.Parts.{Alike};
+
+// A long run is copied in so many parts side by side,
+const PARTS: usize = 6;
+
+// so many bytes of each in turn.
+const BLOCK: usize = 16;
 
 // Copies src into dst, which is as long.
 fn copy_row(src: &[u8], dst: &mut [u8])
@@ -15,6 +22,49 @@ fn copy_row(src: &[u8], dst: &mut [u8])
         dst[i] = src[i];
         i += 1;
     }
+}
+
+// Copies the bytes of a block by way of one of our own, which lies apart from both, so that they are moved at once.
+fn copy_block(src: &[u8], dst: &mut [u8])
+    requires { ⌜ (length (now src) ≡ 16) × (length (now dst) ≡ 16) ⌝ }
+    ensures { λ _. ⌜ now (dst .exit) ≡ now (src .entry) ⌝ }
+{
+    let mut block = [0; BLOCK];
+    copy_row(src, &mut block);
+    copy_row(&block, dst);
+}
+
+// Copies the block at x of each part of `size` bytes.
+fn copy_blocks(src: &[u8], dst: &mut [u8], size: usize, x: usize)
+    requires { ⌜ (x + 16 ≤ size) × (6 * size ≤ length (now src)) × (length (now src) ≡ length (now dst)) × Alike (now src) (now dst) size 6 x ⌝ }
+    ensures { λ _. ⌜ Alike (now (src .entry)) (now (dst .exit)) size 6 (x + 16) ⌝ }
+{
+    let mut k = 0;
+    let mut at = x;
+    while k < PARTS {
+        let e = at + BLOCK;
+        copy_block(&src[at..e], &mut dst[at..e]);
+        at += size;
+        k += 1;
+    }
+}
+
+// Copies src into dst, which is as long: parts of it side by side, since memory answers sooner in several places, and then the rest.
+fn copy_run(src: &[u8], dst: &mut [u8])
+    requires { ⌜ length (now src) ≡ length (now dst) ⌝ }
+    ensures { λ _. ⌜ now (dst .exit) ≡ now (src .entry) ⌝ }
+{
+    let count = dst.len() / (PARTS * BLOCK);
+    let size = count * BLOCK;
+    let mut i = 0;
+    let mut x = 0;
+    while i < count {
+        copy_blocks(src, dst, size, x);
+        x += BLOCK;
+        i += 1;
+    }
+    let done = PARTS * size;
+    copy_row(&src[done..], &mut dst[done..]);
 }
 
 // Copies `count` pieces of `size` bytes, at `at`, at + step, .. in src, to the front of dst.
@@ -33,6 +83,19 @@ pub fn copy_pieces(src: &[u8], dst: &mut [u8], at: usize, step: usize, size: usi
         to = f;
         k += 1;
     }
+}
+
+// Copies the first `w` bytes of each of `count` rows of `stride` bytes, at once where a row has no others.
+pub fn copy_whole(src: &[u8], dst: &mut [u8], stride: usize, w: usize, count: usize)
+    requires { ⌜ (w ≤ stride) × (count * stride ≤ length (now src)) × (count * w ≤ length (now dst)) ⌝ }
+    ensures { λ _. ⌜ now (dst .exit) ≡ over (pieces (now (src .entry)) 0 stride w count) (now (dst .entry)) ⌝ }
+{
+    if w == stride {
+        let n = count * w;
+        copy_run(&src[0..n], &mut dst[0..n]);
+        return;
+    }
+    copy_pieces(src, dst, 0, stride, w, count);
 }
 
 // Copies one component of each row: a row is `stride` bytes, and its `width` samples of `size` bytes are `step` bytes apart.

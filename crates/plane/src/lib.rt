@@ -5,7 +5,7 @@ use chunk::chunk_data;
 use chunk::data_of;
 use chunk::frame::frame_at;
 use chunk::map::Lookup;
-use copy::copy_pieces;
+use copy::copy_whole;
 use copy::gather_rows;
 use format::Range;
 use format::Summary;
@@ -91,8 +91,17 @@ fn frame_for(file: &[u8], u: Summary, scene: u64, t: u64, c: u64, z: u64, room: 
     }
 }
 
-// Copies the samples of `size` bytes of component c out of the rows of a frame: whole rows where there is no other component.
-fn copy_rows(rows: &[u8], u: Summary, c: u64, size: usize, samples: &mut [u8])
+// Copies the samples of a frame that has one component: its rows without their padding.
+fn copy_rows(rows: &[u8], u: Summary, c: u64, samples: &mut [u8])
+    requires { ⌜ (u .components ≡ 1) × Fit u c (length (now rows)) (length (now samples)) ⌝ }
+    ensures { λ _. ⌜ now (samples .exit) ≡ over (planeIn u c (now (rows .entry))) (now (samples .entry)) ⌝ }
+{
+    let w = u.width as usize * (u.bits / 8) as usize;
+    copy_whole(rows, samples, u.stride as usize, w, u.height as usize);
+}
+
+// Copies the samples of `size` bytes of component c out of the rows of a frame.
+fn gather_samples(rows: &[u8], u: Summary, c: u64, size: usize, samples: &mut [u8])
     requires { ⌜ (size ≡ u .bits / 8) × Fit u c (length (now rows)) (length (now samples)) ⌝ }
     ensures { λ _. ⌜ now (samples .exit) ≡ over (planeIn u c (now (rows .entry))) (now (samples .entry)) ⌝ }
 {
@@ -100,10 +109,6 @@ fn copy_rows(rows: &[u8], u: Summary, c: u64, size: usize, samples: &mut [u8])
     let height = u.height as usize;
     let stride = u.stride as usize;
     let components = u.components as usize;
-    if components == 1 {
-        copy_pieces(rows, samples, 0, stride, width * size, height);
-        return;
-    }
     let at = c as usize * size;
     gather_rows(
         rows,
@@ -117,20 +122,24 @@ fn copy_rows(rows: &[u8], u: Summary, c: u64, size: usize, samples: &mut [u8])
     );
 }
 
-// The same with each size as a literal, so that it is compiled for each.
+// Copies the samples of component c: whole rows where there is no other, and else with each size as a literal, so that it is compiled for each.
 fn copy_samples(rows: &[u8], u: Summary, c: u64, samples: &mut [u8])
     requires { ⌜ Fit u c (length (now rows)) (length (now samples)) ⌝ }
     ensures { λ _. ⌜ now (samples .exit) ≡ over (planeIn u c (now (rows .entry))) (now (samples .entry)) ⌝ }
 {
+    if u.components == 1 {
+        copy_rows(rows, u, c, samples);
+        return;
+    }
     if u.bits == 8 {
-        copy_rows(rows, u, c, 1, samples);
+        gather_samples(rows, u, c, 1, samples);
         return;
     }
     if u.bits == 16 {
-        copy_rows(rows, u, c, 2, samples);
+        gather_samples(rows, u, c, 2, samples);
         return;
     }
-    copy_rows(rows, u, c, 4, samples);
+    gather_samples(rows, u, c, 4, samples);
 }
 
 // The plane of component c at a point, row by row, into the lent bytes; 0, or the number of the first refusal.

@@ -1,4 +1,4 @@
--- `copy_samples`: the literal is the size of a sample.
+-- `copy_samples`: each literal is the size of a sample.
 use Prim.Native.Nat.{ℕ, _/_}
 use mathlib.Core.Path.{_≡_, refl}
 use borrow.Author.Needs.{needs}
@@ -21,8 +21,8 @@ same-length c = search needs
 returns : tie.Need-returns
 returns c = search needs
 
-copy-rows-requires-2 : tie.Need-copy-rows-requires-2
-copy-rows-requires-2 c κs = search needs
+gather-samples-requires : tie.Need-gather-samples-requires
+gather-samples-requires c κs = search needs
 
 same-length-2 : tie.Need-same-length-2
 same-length-2 c = search needs
@@ -30,11 +30,8 @@ same-length-2 c = search needs
 returns-2 : tie.Need-returns-2
 returns-2 c = search needs
 
-copy-rows-requires-3 : tie.Need-copy-rows-requires-3
-copy-rows-requires-3 c κs =
-    let b = c .before .before .before in
-    let f = b .before .before .before .before .pre in
-    (four _ (f .bits) (b .if1 .left) (c .before .if2 .left), f)
+gather-samples-requires-2 : tie.Need-gather-samples-requires-2
+gather-samples-requires-2 c κs = search needs
 
 same-length-3 : tie.Need-same-length-3
 same-length-3 c = search needs
@@ -42,6 +39,31 @@ same-length-3 c = search needs
 returns-3 : tie.Need-returns-3
 returns-3 c = search needs
 
+gather-samples-requires-3 : tie.Need-gather-samples-requires-3
+gather-samples-requires-3 c κs =
+    let b = c .before .before .before in
+    let f = b .before .before .before .before .before .before .pre in
+    (four _ (f .bits) (b .if2 .left) (c .before .if3 .left), f)
+
+same-length-4 : tie.Need-same-length-4
+same-length-4 c = search needs
+
+returns-4 : tie.Need-returns-4
+returns-4 c = search needs
+
 pub copy-samples-spec : {M : Type 1} → statement M
 copy-samples-spec =
-    tie.close (tie.spec copy-rows-requires same-length returns copy-rows-requires-2 same-length-2 returns-2 copy-rows-requires-3 same-length-3 returns-3)
+    tie.close
+    (tie.spec
+    copy-rows-requires
+    same-length
+    returns
+    gather-samples-requires
+    same-length-2
+    returns-2
+    gather-samples-requires-2
+    same-length-3
+    returns-3
+    gather-samples-requires-3
+    same-length-4
+    returns-4)

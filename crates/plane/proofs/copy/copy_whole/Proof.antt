@@ -1,0 +1,79 @@
+-- `copy_whole`: one run where the rows have nothing between them, and else row by row.
+use mathlib.Core.Path.{_≡_, refl, sym, ap, _∙_}
+use Prim.Native.Nat.{ℕ, _*_, _≤_}
+use native.Mathlib.Nat.{zero-add, sub-zero}
+use native.Mathlib.Omega.{arith}
+use lib.ListN.{length}
+use borrow.Author.Needs.{needs}
+use denote.Ref.{now}
+use Rattle.format.specs.Bytes.{part}
+use Rattle.plane.proofs.Rows.{pieces-once}
+use Rattle.plane.proofs.copy.copy_whole.Statement.{statement}
+use Rattle.plane.proofs.copy.copy_whole.Tie as tie
+
+mul-n : tie.Need-mul-n
+mul-n c = omega arith
+
+sub-copy-run : tie.Need-sub-copy-run
+sub-copy-run c = search needs
+
+part-copy-run-start : tie.Need-part-copy-run-start
+part-copy-run-start c = search needs
+
+-- the rows are within src
+inside : (c : tie.Then1) → let a = c .before .before .before .args in a .count * a .w ≤ length (now (a .src))
+inside c =
+    let s = c .before .before .before in
+    rw (c .if1 .taken) (s .pre .1)
+
+part-copy-run-end : tie.Need-part-copy-run-end
+part-copy-run-end c = omega (arith, inside c)
+
+sub-copy-run-2 : tie.Need-sub-copy-run-2
+sub-copy-run-2 c = search needs
+
+part-copy-run-start-2 : tie.Need-part-copy-run-start-2
+part-copy-run-start-2 c = search needs
+
+part-copy-run-end-2 : tie.Need-part-copy-run-end-2
+part-copy-run-end-2 c = search needs
+
+copy-run-requires : tie.Need-copy-run-requires
+copy-run-requires c κs = search needs
+
+same-length : tie.Need-same-length
+same-length c = search needs
+
+returns : tie.Need-returns
+unfolding part
+returns c =
+    let s = c .before .before .before .before .before .before .before .before in
+    let t = c .before .before .before .before .before in
+    rw sub-zero (pieces-once (now (s .args .src)) (now (s .args .dst)) (c .before .before .copy-run .last .1 .0) (s .args .w) (s .args .stride) (s .args .count) (t .if1 .taken) (inside t) (rw sub-zero at (c .before .before .copy-run .ensures)))
+
+copy-pieces-requires : tie.Need-copy-pieces-requires
+copy-pieces-requires c κs = search needs
+
+same-length-2 : tie.Need-same-length-2
+same-length-2 c = search needs
+
+returns-2 : tie.Need-returns-2
+returns-2 c = search needs
+
+pub copy-whole-spec : {M : Type 1} → statement M
+copy-whole-spec =
+    tie.close
+    (tie.spec
+    mul-n
+    sub-copy-run
+    part-copy-run-start
+    part-copy-run-end
+    sub-copy-run-2
+    part-copy-run-start-2
+    part-copy-run-end-2
+    copy-run-requires
+    same-length
+    returns
+    copy-pieces-requires
+    same-length-2
+    returns-2)
