@@ -67,6 +67,26 @@ fn copy_run(src: &[u8], dst: &mut [u8])
     copy_row(&src[done..], &mut dst[done..]);
 }
 
+// Copies src into dst, which is as long: two or four bytes, the samples of 16 and 32 bits, at once, as a block is.
+fn copy_piece(src: &[u8], dst: &mut [u8])
+    requires { ⌜ length (now src) ≡ length (now dst) ⌝ }
+    ensures { λ _. ⌜ now (dst .exit) ≡ now (src .entry) ⌝ }
+{
+    if dst.len() == 2 {
+        let mut sample = [0; 2];
+        copy_row(src, &mut sample);
+        copy_row(&sample, dst);
+        return;
+    }
+    if dst.len() == 4 {
+        let mut sample = [0; 4];
+        copy_row(src, &mut sample);
+        copy_row(&sample, dst);
+        return;
+    }
+    copy_row(src, dst);
+}
+
 // Copies `count` pieces of `size` bytes, at `at`, at + step, .. in src, to the front of dst.
 pub fn copy_pieces(src: &[u8], dst: &mut [u8], at: usize, step: usize, size: usize, count: usize)
     requires { ⌜ (at + size ≤ step) × (count * step ≤ length (now src)) × (count * size ≤ length (now dst)) ⌝ }
@@ -78,7 +98,7 @@ pub fn copy_pieces(src: &[u8], dst: &mut [u8], at: usize, step: usize, size: usi
     while k < count {
         let e = from + size;
         let f = to + size;
-        copy_row(&src[from..e], &mut dst[to..f]);
+        copy_piece(&src[from..e], &mut dst[to..f]);
         from += step;
         to = f;
         k += 1;

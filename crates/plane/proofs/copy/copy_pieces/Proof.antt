@@ -38,26 +38,26 @@ add-e c = omega (arith, src-in c)
 add-f : tie.Need-add-f Inv-loop μ-loop
 add-f c = omega (arith, dst-in c)
 
-sub-copy-row : tie.Need-sub-copy-row Inv-loop μ-loop
-sub-copy-row c = omega arith
+sub-copy-piece : tie.Need-sub-copy-piece Inv-loop μ-loop
+sub-copy-piece c = omega arith
 
-part-copy-row-start : tie.Need-part-copy-row-start Inv-loop μ-loop
-part-copy-row-start c = omega arith
+part-copy-piece-start : tie.Need-part-copy-piece-start Inv-loop μ-loop
+part-copy-piece-start c = omega arith
 
-part-copy-row-end : tie.Need-part-copy-row-end Inv-loop μ-loop
-part-copy-row-end c = omega (arith, src-in c)
+part-copy-piece-end : tie.Need-part-copy-piece-end Inv-loop μ-loop
+part-copy-piece-end c = omega (arith, src-in c)
 
-sub-copy-row-2 : tie.Need-sub-copy-row-2 Inv-loop μ-loop
-sub-copy-row-2 c = omega arith
+sub-copy-piece-2 : tie.Need-sub-copy-piece-2 Inv-loop μ-loop
+sub-copy-piece-2 c = omega arith
 
-part-copy-row-start-2 : tie.Need-part-copy-row-start-2 Inv-loop μ-loop
-part-copy-row-start-2 c = omega arith
+part-copy-piece-start-2 : tie.Need-part-copy-piece-start-2 Inv-loop μ-loop
+part-copy-piece-start-2 c = omega arith
 
-part-copy-row-end-2 : tie.Need-part-copy-row-end-2 Inv-loop μ-loop
-part-copy-row-end-2 c = omega (arith, dst-in (c .before))
+part-copy-piece-end-2 : tie.Need-part-copy-piece-end-2 Inv-loop μ-loop
+part-copy-piece-end-2 c = omega (arith, dst-in (c .before))
 
-copy-row-requires : tie.Need-copy-row-requires Inv-loop μ-loop
-copy-row-requires c κs =
+copy-piece-requires : tie.Need-copy-piece-requires Inv-loop μ-loop
+copy-piece-requires c κs =
     let l = c .before .before .before .loop in
     let a = c .before .before .before .before .before .before .args in
     rw (add-sub-cancel-left, add-sub-cancel-left)
@@ -81,9 +81,9 @@ loop-again c =
       omega arith,
       rw (add-one, suc-mul) (omega arith),
       rw (add-one, suc-mul) (omega arith),
-      same-len-mid (l .to) (l .to + a .size - l .to) (l .dst) (c .before .before .copy-row .last .1 .0) (c .before .before .copy-row .kept .1 .0) ∙ l .inv .3,
-      piece-more (now (a .src)) (a .at) (a .step) (a .size) (omega arith) (now (a .dst)) (l .dst) (c .before .before .copy-row .last .1 .0) (l .k) (l .from) (l .to) (omega (arith, src-in t)) (l .inv .1) (l .inv .2) (l .inv .4)
-          (c .before .before .copy-row .ensures),
+      same-len-mid (l .to) (l .to + a .size - l .to) (l .dst) (c .before .before .copy-piece .last .1 .0) (c .before .before .copy-piece .kept .1 .0) ∙ l .inv .3,
+      piece-more (now (a .src)) (a .at) (a .step) (a .size) (omega arith) (now (a .dst)) (l .dst) (c .before .before .copy-piece .last .1 .0) (l .k) (l .from) (l .to) (omega (arith, src-in t)) (l .inv .1) (l .inv .2) (l .inv .4)
+          (c .before .before .copy-piece .ensures),
     )
 
 same-length : tie.Need-same-length Inv-loop μ-loop
@@ -105,13 +105,13 @@ copy-pieces-spec =
     loop-holds
     add-e
     add-f
-    sub-copy-row
-    part-copy-row-start
-    part-copy-row-end
-    sub-copy-row-2
-    part-copy-row-start-2
-    part-copy-row-end-2
-    copy-row-requires
+    sub-copy-piece
+    part-copy-piece-start
+    part-copy-piece-end
+    sub-copy-piece-2
+    part-copy-piece-start-2
+    part-copy-piece-end-2
+    copy-piece-requires
     add-from
     add-k
     loop-less
