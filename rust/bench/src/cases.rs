@@ -9,7 +9,7 @@ use sample::parts::Sizes;
 use second::Summary;
 use std::hint::black_box;
 
-const TABLE_BYTES: usize = 256 * 48;
+pub const TABLE_BYTES: usize = 256 * 48;
 const FRAME_BYTES: usize = 24;
 /// Small answers are taken so often in each turn.
 const OFTEN: u32 = 200;

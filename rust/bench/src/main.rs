@@ -5,7 +5,8 @@
 //! ORIGINAL_FOLDER has the original's nd2_reader.rs, calibration.rs, types.rs and guard.rs; without it the original is
 //! left out. Planes have N x N samples (--side, 2048); those of the roller, of which there are 528, N x N too
 //! (--roller-side, 512: with 2048 the roller has 4.4 GB and as much memory is needed). All contenders take turns in this one
-//! process, and the best time of each counts. The exit status is 1 where a target is missed.
+//! process, and the best time of each counts. The exit status is 1 where a target is missed; one
+//! that needs the original, where that is left out, is told as not run.
 
 mod cases;
 mod files;
@@ -14,6 +15,7 @@ mod original;
 mod table;
 mod timing;
 
+use nd2::raw::read_plane;
 use nd2::Reader;
 use original::Original;
 use sample::parts::Sizes;
@@ -21,7 +23,7 @@ use std::io;
 use std::ops::RangeInclusive;
 use std::path::PathBuf;
 use std::process::ExitCode;
-use table::Row;
+use table::{Row, Verdict};
 
 const USAGE: &str = "\
 usage: bench [ORIGINAL_FOLDER] [--only planes|roller|map] [--side N] [--roller-side N] [--entries N] [--repetitions N]";
@@ -103,17 +105,17 @@ fn main() -> ExitCode {
     };
     // memory first, while the process has none to give again
     let memory = Memory::measured(options.side, original);
-    let met = times(&options, original);
+    let verdicts = times(&options, original);
     memory.print();
-    ExitCode::from(!met as u8)
+    ExitCode::from(verdicts.contains(&Verdict::Missed) as u8)
 }
 
-/// Prints the table; whether every target is met.
-fn times(options: &Options, original: Option<Original>) -> bool {
+/// Prints the table, and how many of its targets are met, missed and not run; what became of each target.
+fn times(options: &Options, original: Option<Original>) -> Vec<Verdict> {
     table::head();
     let repetitions = options.repetitions;
-    let mut met = true;
-    let mut print = |rows: Vec<Row>| rows.iter().for_each(|row| met &= table::print(row));
+    let mut verdicts = Vec::new();
+    let mut print = |rows: Vec<Row>| verdicts.extend(rows.iter().filter_map(table::print));
     if options.asks_for("planes") {
         for sizes in sizes(options.side) {
             print(cases::plane(sizes, original, 4 * repetitions));
@@ -128,7 +130,11 @@ fn times(options: &Options, original: Option<Original>) -> bool {
     println!();
     println!("'bytes' are what memcpy copies: those of the planes, otherwise those of the map. The original has no register:");
     println!("its map is asked for each frame.");
-    met
+    let so_many = |which| verdicts.iter().filter(|&&verdict| verdict == which).count();
+    let [met, missed] = [Verdict::Met, Verdict::Missed].map(so_many);
+    let not_run = so_many(Verdict::NotRun);
+    println!("Targets: {met} met, {missed} missed, {not_run} not run (they need the original).");
+    verdicts
 }
 
 /// 1 component, the same with padded rows, 2 and 3 components; each with 8, 16 and 32 bits.
@@ -194,7 +200,9 @@ impl Memory {
             );
         }
         match &self.stack {
-            Ok(bytes) => println!("  stack     {bytes} bytes in the five calls that the Rust library makes, on a tree of 64 levels too; the border call is not in it"),
+            Ok(bytes) => {
+                println!("  stack     {bytes} bytes in the six calls, on a tree of 64 levels too")
+            }
             Err(error) => println!("  stack     {error}"),
         }
     }
@@ -202,10 +210,12 @@ impl Memory {
 
 /// Every call once, on a file that has a tree as deep as they come.
 fn all_calls(file: &[u8]) -> impl FnMut() + '_ {
+    let mut table = vec![1; cases::TABLE_BYTES];
     move || {
         let reader = Reader::open(file).expect("it opens");
         assert_eq!(reader.tree(files::DEEP).expect("a tree").len(), 65);
-        assert!(reader.plane(0, 0, 1, 0).is_ok());
+        let mut samples = reader.plane(0, 0, 1, 0).expect("a plane");
         assert!(reader.channels().is_ok() && reader.register().is_ok());
+        assert_eq!(read_plane(file, &mut table, [0, 0, 1, 0], &mut samples), 0);
     }
 }

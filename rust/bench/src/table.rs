@@ -9,6 +9,14 @@ pub struct Target {
     pub most: f64,
 }
 
+/// What became of a target.
+#[derive(Clone, Copy, Debug, PartialEq, Eq)]
+pub enum Verdict {
+    Met,
+    Missed,
+    NotRun,
+}
+
 /// What was timed, how many bytes memcpy copies beside it, and the best times.
 pub struct Row {
     pub what: String,
@@ -23,16 +31,27 @@ impl Row {
         Some(time(Who::Proved)? / time(against)?)
     }
 
-    fn verdict(&self) -> (String, bool) {
-        let Some(target) = self.target else {
-            return (String::new(), true);
+    /// What became of the row's target, where it has one.
+    fn verdict(&self) -> Option<Verdict> {
+        let target = self.target?;
+        Some(match self.ratio(target.against) {
+            Some(ratio) if ratio <= target.most => Verdict::Met,
+            Some(_) => Verdict::Missed,
+            None => Verdict::NotRun,
+        })
+    }
+
+    /// The last column.
+    fn told(&self) -> String {
+        let (Some(target), Some(verdict)) = (self.target, self.verdict()) else {
+            return String::new();
         };
-        let (name, most) = (name(target.against), target.most);
-        match self.ratio(target.against) {
-            Some(ratio) if ratio <= most => (format!("{most} x {name}: pass"), true),
-            Some(_) => (format!("{most} x {name}: MISS"), false),
-            None => (format!("{most} x {name}: not run"), true),
-        }
+        let word = match verdict {
+            Verdict::Met => "pass",
+            Verdict::Missed => "MISS",
+            Verdict::NotRun => "not run",
+        };
+        format!("{} x {}: {word}", target.most, name(target.against))
     }
 }
 
@@ -69,18 +88,18 @@ pub fn head() {
     );
 }
 
-/// Prints a row; whether its target is met.
-pub fn print(row: &Row) -> bool {
+/// Prints a row; what became of its target.
+pub fn print(row: &Row) -> Option<Verdict> {
     print!("{:46} {:>12}", row.what, row.bytes);
     row.best
         .iter()
         .for_each(|best| print!(" {:>9}", milliseconds(*best)));
-    let (verdict, met) = row.verdict();
     println!(
-        "  {:>8} {:>8} {:>9}  {verdict}",
+        "  {:>8} {:>8} {:>9}  {}",
         shown(row.ratio(Who::Memcpy)),
         shown(row.ratio(Who::Second)),
         shown(row.ratio(Who::Original)),
+        row.told(),
     );
-    met
+    row.verdict()
 }

@@ -25,7 +25,8 @@ fn every_case_is_in_the_table() {
         "open a map of 100 entries",
         "register of 98 frames",
         "0.5 x original: not run",
-        "bytes in the five calls that the Rust library makes",
+        " missed, 4 not run (they need the original).",
+        "bytes in the six calls, on a tree of 64 levels",
     ] {
         assert!(told.contains(part), "{part:?} is not in {told}");
     }

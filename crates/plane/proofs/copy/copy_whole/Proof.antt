@@ -24,7 +24,8 @@ part-copy-run-start c = search needs
 inside : (c : tie.Then1) → let a = c .before .before .before .args in a .count * a .w ≤ length (now (a .src))
 inside c =
     let s = c .before .before .before in
-    rw (c .if1 .taken) (s .pre .1)
+    let e : s .args .w ≡ s .args .stride = omega arith in
+    rw e (s .pre .1)
 
 part-copy-run-end : tie.Need-part-copy-run-end
 part-copy-run-end c = omega (arith, inside c)
