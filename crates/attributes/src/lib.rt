@@ -129,7 +129,7 @@ fn five(
     })
 }
 
-// What is made of them.
+// The attributes, or the number of the first of 12 to 14 that holds; `plain` says that there is no compression.
 fn judged(plain: bool, a: Attributes) -> Parsed
     ensures { λ r. ⌜ answer r ≡ judgedBy plain a ⌝ }
 {

@@ -1,4 +1,4 @@
-// The one function that a program in another language calls: it opens a file and reads a plane of it.
+// The border call: a program in another language opens a file and reads a plane of it in one call.
 use open::open;
 use plane::plane;
 ghost use mathlib.Core.Path.{_≡_};

@@ -19,38 +19,38 @@ use Rattle.format.specs.declared.Summary.{Summary}
 use Rattle.channels.specs.Ahead.{ahead}
 use Rattle.channels.specs.Ready.{Ready}
 use Rattle.channels.specs.declared.Prepared.{Prepared}
-use Rattle.layout.specs.Layout.{channelBytes, rowBytes}
+use Rattle.layout.specs.Layout.{channelBytes, channelRowBytes}
 use Rattle.capi.specs.OnBytes.{channelRow}
 
 channel-length : (c : Channel) → length (channelBytes c) ≡ 56
 unfolding channelBytes
 channel-length c = simp (length-append, leBytes-length)
 
-pub row-length : (cs : List Channel) → length (rowBytes cs) ≡ 56 * length cs
-unfolding rowBytes
+pub row-length : (cs : List Channel) → length (channelRowBytes cs) ≡ 56 * length cs
+unfolding channelRowBytes
 row-length [] = refl
 row-length (c ∷ cs) = rw (length-append, channel-length, row-length cs) (omega arith)
 
-row-last : (cs : List Channel) (c : Channel) → rowBytes (cs ++ c ∷ []) ≡ rowBytes cs ++ channelBytes c
-unfolding rowBytes
+row-last : (cs : List Channel) (c : Channel) → channelRowBytes (cs ++ c ∷ []) ≡ channelRowBytes cs ++ channelBytes c
+unfolding channelRowBytes
 row-last [] c = append-nil (channelBytes c)
-row-last (x ∷ cs) c = ap (λ r. channelBytes x ++ r) (row-last cs c) ∙ sym (append-assoc (channelBytes x) (rowBytes cs) (channelBytes c))
+row-last (x ∷ cs) c = ap (λ r. channelBytes x ++ r) (row-last cs c) ∙ sym (append-assoc (channelBytes x) (channelRowBytes cs) (channelBytes c))
 
 -- nothing is stored yet
-pub none-stored : (b : List ℕ) → b ≡ over (rowBytes []) b
-unfolding rowBytes over
+pub none-stored : (b : List ℕ) → b ≡ over (channelRowBytes []) b
+unfolding channelRowBytes over
 none-stored b = refl
 
 -- one record more
-pub next-stored : (cs : List Channel) (b₀ b : List ℕ) (k : ℕ) (c : Channel) → b ≡ over (rowBytes (take k cs)) b₀ → k < length cs → 56 * length cs ≤ length b₀
-    → c ≡ getD cs k emptyChannel → sets b (56 * k) (channelBytes c) ≡ over (rowBytes (take (k + 1) cs)) b₀
+pub next-stored : (cs : List Channel) (b₀ b : List ℕ) (k : ℕ) (c : Channel) → b ≡ over (channelRowBytes (take k cs)) b₀ → k < length cs → 56 * length cs ≤ length b₀
+    → c ≡ getD cs k emptyChannel → sets b (56 * k) (channelBytes c) ≡ over (channelRowBytes (take (k + 1) cs)) b₀
 next-stored cs b₀ b k c e h room q =
-    let l : length (rowBytes (take k cs)) ≡ 56 * k = rw (row-length (take k cs), length-take-le k cs (omega arith)) in
+    let l : length (channelRowBytes (take k cs)) ≡ 56 * k = rw (row-length (take k cs), length-take-le k cs (omega arith)) in
     let n = channel-length (getD cs k emptyChannel) in
-    rw (e, q, add-one, take-suc cs k emptyChannel h, row-last) (over-stored (rowBytes (take k cs)) (channelBytes (getD cs k emptyChannel)) b₀ (56 * k) l (omega arith))
+    rw (e, q, add-one, take-suc cs k emptyChannel h, row-last) (over-stored (channelRowBytes (take k cs)) (channelBytes (getD cs k emptyChannel)) b₀ (56 * k) l (omega arith))
 
 -- all of them
-pub all-stored : (cs : List Channel) (b₀ b : List ℕ) (k : ℕ) → b ≡ over (rowBytes (take k cs)) b₀ → length cs ≤ k → b ≡ over (rowBytes cs) b₀
+pub all-stored : (cs : List Channel) (b₀ b : List ℕ) (k : ℕ) → b ≡ over (channelRowBytes (take k cs)) b₀ → length cs ≤ k → b ≡ over (channelRowBytes cs) b₀
 all-stored cs b₀ b k e h = rw (take-all k cs h) at e
 
 -- ---- the call
@@ -58,12 +58,12 @@ all-stored cs b₀ b k e h = rw (take-all k cs h) at e
 -- The row that was cleared has the records of the prepared call.
 pub row-call : (file table t : List ℕ) (u : Summary) (n count : ℕ) (p : Prepared) (row b : List ℕ) → count ≡ n / 56
     → Ready file t count (u .components) (recordsOf file u (roomIn (length table)) count) p → b ≡ zeros n
-    → row ≡ over (rowBytes (fitted count (ahead file t (p .planes)))) b
+    → row ≡ over (channelRowBytes (fitted count (ahead file t (p .planes)))) b
     → (p .number ≡ channelRow file u table n .number) × (row ≡ channelRow file u table n .buffer)
 unfolding channelRow channelsCall
 row-call file table t u n count p row b q r z e =
     let l = length-replicate (n / 56) emptyChannel in
-    (rw (l, ← q) (r .number), rw (l, ← q, r .row) (e ∙ ap (over (rowBytes (fitted count (ahead file t (p .planes))))) z))
+    (rw (l, ← q) (r .number), rw (l, ← q, r .row) (e ∙ ap (over (channelRowBytes (fitted count (ahead file t (p .planes))))) z))
 
 -- ---- records of zeros
 
@@ -75,8 +75,8 @@ empty-bytes : channelBytes emptyChannel ≡ zeros 56
 unfolding channelBytes leBytes emptyChannel zeros
 empty-bytes = refl
 
-empty-row : (n : ℕ) → rowBytes (replicate n emptyChannel) ≡ zeros (56 * n)
-unfolding rowBytes
+empty-row : (n : ℕ) → channelRowBytes (replicate n emptyChannel) ≡ zeros (56 * n)
+unfolding channelRowBytes
 empty-row zero = unfold zeros in refl
 empty-row (suc n) =
     let e : 56 + 56 * n ≡ 56 * suc n = omega arith in

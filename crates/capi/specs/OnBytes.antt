@@ -1,4 +1,4 @@
--- The calls over summaries in lent bytes: "a summary that is not of the layout is 20".
+-- The calls over summaries in lent bytes. Bytes that are not of the layout are 20, like a summary that cannot be used.
 use Prim.Native.Nat.{ℕ, _/_}
 use mathlib.Core.Bool.{cond}
 use mathlib.Core.Option.{Option, none, some}
@@ -14,7 +14,7 @@ use Rattle.format.specs.Channels.{emptyChannel}
 use Rattle.format.specs.Calls.Channels.{channelsCall}
 use Rattle.format.specs.Calls.Register.{registerCall}
 use Rattle.format.specs.declared.Summary.{Summary}
-use Rattle.layout.specs.Layout.{summaryFrom, rowBytes}
+use Rattle.layout.specs.Layout.{summaryFrom, channelRowBytes}
 
 -- what a call answers on the summary that the bytes say; `bad` is what the lent buffer holds where they say none
 unfoldable pub onSummary : List ℕ → (Summary → Outcome) → Option Summary → Outcome
@@ -31,10 +31,10 @@ treeOn file summary name table = onSummary (zeros (length table)) (λ u. treeCal
 
 -- the channels call on a lent row of n bytes: as many records as fit, zeros behind them. What the row held before is not looked at.
 unfoldable pub channelRow : List ℕ → Summary → List ℕ → ℕ → Outcome
-unfolding rowBytes over zeros
+unfolding channelRowBytes over zeros
 channelRow file u table n =
     let call = channelsCall file u table (replicate (n / 56) emptyChannel) in
-    record { number = call .number; buffer = over (rowBytes (call .row)) (zeros n) }
+    record { number = call .number; buffer = over (channelRowBytes (call .row)) (zeros n) }
 
 unfoldable pub channelsOn : List ℕ → List ℕ → List ℕ → ℕ → Outcome
 unfolding onSummary summaryFrom channelRow

@@ -23,7 +23,7 @@ ghost use Rattle.format.specs.Channels.{fitted};
 ghost use Rattle.format.specs.Demands.{Refuses};
 ghost use Rattle.format.specs.Calls.Open.{openCall};
 ghost use Rattle.channels.specs.Ahead.{ahead, Stands};
-ghost use Rattle.layout.specs.Layout.{summaryFrom, rowBytes};
+ghost use Rattle.layout.specs.Layout.{summaryFrom, channelRowBytes};
 ghost use Rattle.capi.specs.OnBytes.{openOn, planeOn, treeOn, channelRow, channelsOn, registerOn};
 
 // Opens a file, and stores its summary: 0, or the number of the first refusal and a summary of zeros. The table is all zero afterwards.
@@ -89,7 +89,7 @@ pub extern "C" fn nd2_tree(file: &[u8], summary: &[u8], name: &[u8], table: &mut
 // Stores the records of a walk, one after another.
 fn put_records(file: &[u8], table: &[u8], first: Planes, row: &mut [u8], count: usize)
     requires { ⌜ Stands (now file) (now table) first × (56 * count ≤ length (now row)) ⌝ }
-    ensures { λ _. ⌜ now (row .exit) ≡ over (rowBytes (fitted count (ahead (now (file .entry)) (now (table .entry)) first))) (now (row .entry)) ⌝ }
+    ensures { λ _. ⌜ now (row .exit) ≡ over (channelRowBytes (fitted count (ahead (now (file .entry)) (now (table .entry)) first))) (now (row .entry)) ⌝ }
 {
     let mut p = first;
     let mut k = 0;

@@ -3,7 +3,6 @@ ghost use mathlib.Core.Path.{_≡_};
 ghost use mathlib.Core.Option.{none};
 ghost use mathlib.Core.List.{List};
 ghost use Prim.Native.Nat.{ℕ, _<_};
-ghost use Rattle.format.specs.Values.{text};
 ghost use Rattle.format.specs.Numbers.{below32};
 ghost use Rattle.format.specs.Channels.{emptyChannel, withText, withColor, channelOf};
 ghost use Rattle.format.specs.declared.Entry.{Entry};

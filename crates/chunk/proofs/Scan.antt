@@ -7,10 +7,9 @@ use mathlib.Core.List.{List, []}
 use native.Mathlib.Omega.{arith}
 use lib.ListN.{length, drop}
 use Rattle.format.specs.Bytes.{le, part, same}
-use Rattle.format.specs.Answer.{Answer, given, refused, andThen, orRefuse, numberOf}
-use Rattle.format.specs.Map.{MapEntry, throughMark, endMark, mapFrom, mapEntries, mostEntries, offsetOf}
-use Rattle.format.proofs.Answers.{andThen-given, given-inj, refused≢given}
-use Rattle.format.proofs.Maps.{map-end, map-full, map-cut, map-entry, orLast, lastOf, last-start, gives, last-entry}
+use Rattle.format.specs.Answer.{Answer, given, refused, andThen, numberOf}
+use Rattle.format.specs.Map.{MapEntry, throughMark, endMark, mapFrom, mapEntries, mostEntries, offsetOf, later}
+use Rattle.format.proofs.Maps.{map-end, map-full, map-cut, map-entry, lastOf, last-start, gives, last-entry}
 use Rattle.chunk.specs.Answers.{lookupOf, givesOf, laterOf, findIn}
 use Rattle.chunk.specs.Scan.{entryAt, Entry, Stands}
 use Rattle.chunk.specs.declared.map.Lookup.{Lookup}
@@ -56,7 +55,7 @@ module _ {m name : List ℕ} {at count : ℕ} {last : Lookup} (h : Scanned m nam
   scan-broken e = sym (h .rest ∙ rw e)
 
   pub scan-end : mapFrom (mostEntries - count) m at ≡ given [] → lookupOf last ≡ findIn m name
-  unfolding lastOf orLast offsetOf
+  unfolding lastOf later offsetOf
   scan-end e = h .kept ∙ sym (h .rest ∙ rw e)
 
   module _ {n : ℕ} (e : Entry m at count n) where
@@ -84,33 +83,4 @@ number-is m name e = ap numberOf e ∙ by (mapEntries m)
   where
     by : (a : Answer (List MapEntry)) → numberOf (andThen a λ es. given (offsetOf m name es)) ≡ numberOf a
     by (refused k) = refl
-    by (given es) = refl
-
--- what is found tells of the entries: they are the same for every name
-module _ (m name : List ℕ) where
-  pub found-map : {o : Option ℕ} → findIn m name ≡ given o → (es : List MapEntry) × (mapEntries m ≡ given es) × (offsetOf m name es ≡ o)
-  unfolding findIn
-  found-map e = let (es, p, q) = andThen-given (mapEntries m) _ e in (es, p, given-inj q)
-
-  pub found-among : {o : Option ℕ} {es : List MapEntry} → mapEntries m ≡ given es → findIn m name ≡ given o → offsetOf m name es ≡ o
-  unfolding findIn andThen
-  found-among p e = given-inj (rw p at e)
-
-  pub broken-map : {n : ℕ} → findIn m name ≡ refused n → mapEntries m ≡ refused n
-  unfolding findIn andThen
-  broken-map {n} e = by (mapEntries m) e
-    where
-      by : (a : Answer (List MapEntry)) → (andThen a λ es. given (offsetOf m name es)) ≡ refused n → a ≡ refused n
-      by (refused k) q = cc
-      by (given es) q = absurd (refused≢given (sym q))
-
--- a name that is looked up in a map that is accepted, as the calls have it
-pub find-then : {B : Type 0} (m name : List ℕ) (k : ℕ) (f : ℕ → Answer B)
-    → (andThen (mapEntries m) λ es. andThen (orRefuse (offsetOf m name es) k) f) ≡ (andThen (findIn m name) λ o. andThen (orRefuse o k) f)
-unfolding findIn andThen
-find-then {B} m name k f = by (mapEntries m)
-  where
-    by : (a : Answer (List MapEntry))
-        → (andThen a λ es. andThen (orRefuse (offsetOf m name es) k) f) ≡ (andThen (andThen a λ es. given (offsetOf m name es)) λ o. andThen (orRefuse o k) f)
-    by (refused n) = refl
     by (given es) = refl

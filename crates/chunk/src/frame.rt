@@ -2,8 +2,6 @@
 use super::map::Lookup;
 use super::map::look_up;
 ghost use mathlib.Core.Path.{_≡_};
-ghost use Prim.Native.Nat.{_≤_};
-ghost use lib.ListN.{length, drop};
 ghost use Rattle.format.specs.Frames.{frameName};
 ghost use Rattle.chunk.specs.Answers.{lookupOf, findIn};
 ghost use Rattle.chunk.specs.Spelling.{Written, Spelled};

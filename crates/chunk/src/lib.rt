@@ -17,9 +17,9 @@ pub mod names; // bytes compared with a name
 pub mod map; // the map's entries
 pub mod frame; // the names of frames
 
-const CHUNK_MARK: u64 = 0x0ABECEDA;
+const ND2_CHUNK_MAGIC: u64 = 0x0ABECEDA;
 
-const LEGACY_MARK: u64 = 0x0C000000;
+const JP2_MAGIC: u64 = 0x0C000000;
 
 // A chunk's data in its file, or refusal 4.
 pub enum ChunkData {
@@ -39,7 +39,7 @@ pub fn chunk_data(file: &[u8], offset: u64, expect: &[u8]) -> ChunkData
     if n - 16 < at {
         return ChunkData::Bad;
     }
-    if le4(file, at) != CHUNK_MARK {
+    if le4(file, at) != ND2_CHUNK_MAGIC {
         return ChunkData::Bad;
     }
     let name_len = le4(file, at + 4) as usize;
@@ -86,10 +86,10 @@ pub fn locate(file: &[u8]) -> MapPlace
         return MapPlace::Refused(refusal::FOREIGN);
     }
     let first = le4(file, 0);
-    if first == LEGACY_MARK {
+    if first == JP2_MAGIC {
         return MapPlace::Refused(refusal::LEGACY);
     }
-    if first != CHUNK_MARK {
+    if first != ND2_CHUNK_MAGIC {
         return MapPlace::Refused(refusal::FOREIGN);
     }
     if n < 40 {

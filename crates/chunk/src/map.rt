@@ -42,12 +42,13 @@ fn skip_clear(s: &[u8], at: usize) -> usize
     i
 }
 
-// How many bytes there are through the first '!', if there is one.
+// A number of bytes, or that there is no '!'.
 pub enum Found {
     Through(usize),
     Nothing,
 }
 
+// How many bytes there are from `at` on through the first '!'.
 pub fn through_mark(s: &[u8], at: usize) -> Found
     requires { ⌜ at ≤ length (now s) ⌝ }
     ensures { λ r. ⌜ (foundOf r ≡ throughMark (drop at (now (s .entry)))) × FoundIn (now (s .entry)) at r ⌝ }
@@ -63,7 +64,7 @@ pub fn through_mark(s: &[u8], at: usize) -> Found
 }
 
 // As many entries a map may have; repeats count.
-const MOST_ENTRIES: u64 = 2_000_000;
+const MAX_MAP_ENTRIES: u64 = 2_000_000;
 
 // What stands next in the map's data.
 pub enum Next {
@@ -86,7 +87,7 @@ pub fn next_entry(map: &[u8], at: usize, entries: u64) -> Next
     if is_end(map, at, n) {
         return Next::End;
     }
-    if entries == MOST_ENTRIES {
+    if entries == MAX_MAP_ENTRIES {
         return Next::Broken;
     }
     if map.len() - at - n < 16 {

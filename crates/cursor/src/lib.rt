@@ -83,6 +83,7 @@ pub enum Word {
 }
 
 impl Cursor {
+    // One byte, with the cursor after it; cut where fewer are left.
     pub fn read_u8(self, s: &[u8]) -> Word
         requires { ⌜ Within self (now s) ⌝ }
         ensures { λ r. ⌜ (r ≡ wordAt 1 (now (s .entry)) self) × GoodWord (now (s .entry)) self 1 r ⌝ }
@@ -95,6 +96,7 @@ impl Cursor {
         Word::Got(wide(s[at]), Cursor { at: at + 1, end })
     }
 
+    // A number of two bytes, with the cursor after it; cut where fewer are left.
     pub fn read_u16(self, s: &[u8]) -> Word
         requires { ⌜ Within self (now s) ⌝ }
         ensures { λ r. ⌜ (r ≡ wordAt 2 (now (s .entry)) self) × GoodWord (now (s .entry)) self 2 r ⌝ }
@@ -107,6 +109,7 @@ impl Cursor {
         Word::Got(le2(s, at), Cursor { at: at + 2, end })
     }
 
+    // A number of four bytes, with the cursor after it; cut where fewer are left.
     pub fn read_u32(self, s: &[u8]) -> Word
         requires { ⌜ Within self (now s) ⌝ }
         ensures { λ r. ⌜ (r ≡ wordAt 4 (now (s .entry)) self) × GoodWord (now (s .entry)) self 4 r ⌝ }
@@ -119,6 +122,7 @@ impl Cursor {
         Word::Got(le4(s, at), Cursor { at: at + 4, end })
     }
 
+    // A number of eight bytes, with the cursor after it; cut where fewer are left.
     pub fn read_u64(self, s: &[u8]) -> Word
         requires { ⌜ Within self (now s) ⌝ }
         ensures { λ r. ⌜ (r ≡ wordAt 8 (now (s .entry)) self) × GoodWord (now (s .entry)) self 8 r ⌝ }

@@ -1,13 +1,13 @@
 -- What the grammar says of the calibration is what opening makes of it. Assumes nothing.
 use Prim.Native.Nat.{ℕ, _≤_}
 use mathlib.Core.Path.{_≡_, refl, sym, ap, _∙_, subst}
-use mathlib.Core.Bool.{Bool, true, false, cond}
+use mathlib.Core.Bool.{Bool, true, false, cond, _&&_}
 use mathlib.Core.Option.{Option, none, some}
 use mathlib.Core.List.{List}
 use native.Mathlib.Omega.{arith}
 use lib.Dec.{eqb, leb}
 use lib.ListN.{length, take}
-use lib.Ieee.{Float}
+use lib.Ieee.{Float, lt}
 use borrow.Author.Tests.{leb-true, eqb-true, eqb-false, ne-eqb}
 use Rattle.format.proofs.Answers.{refused≢given, none≢some, given-inj, Numbered, refusal}
 use Rattle.format.proofs.Trees.{tree-read, fault-read, read-fault}
@@ -23,12 +23,12 @@ use Rattle.format.specs.declared.Range.{Range}
 use Rattle.format.specs.Map.{MapEntry, namedChunk}
 use Rattle.format.specs.Trees.{Stop, at, fault, treeIn, within, wholeTree as wholeTree, treeEntries, namedTree}
 use Rattle.format.specs.Values.{field, fieldIn, asLevel, bind}
-use Rattle.format.specs.Numbers.{float, positive}
-use Rattle.format.specs.Calibration.{aboveZero, pixelSize, unstated, stated, calibrationBy, calibration}
+use Rattle.format.specs.Numbers.{float, positive, finite, narrow, zeroFloat}
+use Rattle.format.specs.Calibration.{leastStep, mostStep, zClass, zFloat, keptZ, aboveZero, pixelSize, unstated, stated, calibrationBy, calibration}
 use Rattle.format.specs.declared.Calibration.{Calibration}
 use Rattle.format.specs.Grammar.Map.{Named}
 use Rattle.format.specs.Grammar.Trees.{Tree}
-use Rattle.format.specs.Grammar.Calibration.{PixelSize, Calibrated, sized, unsized, ends-packed, faulty, missing}
+use Rattle.format.specs.Grammar.Calibration.{Classed, no-step, no-distance, smaller, larger, used, PixelSize, Calibrated, sized, unsized, ends-packed, faulty, missing}
 use Rattle.format.specs.declared.Entry.{Entry}
 
 -- ---- the pixel size
@@ -52,6 +52,38 @@ module _ (s : List ℕ) (es : List Entry) (M : Means s es) where
       some-above : (o : Option Float) (x : Float) → o ≡ some x → positive x ≡ true → aboveZero o ≡ some x
       some-above o x q h = rw (q, h) refl
 
+-- ---- the class of the step
+
+-- the class and the z of the step that was found
+abbrev classOf : Option Float → ℕ
+classOf z = zClass (zFloat z)
+
+abbrev zOf : Option Float → Float
+zOf z = keptZ (classOf z) (zFloat z)
+
+classed : (z : Option Float) → Classed z (classOf z) (zOf z)
+unfolding zFloat zClass keptZ
+classed none = no-step
+classed (some x) = go (positive (narrow x) && finite (narrow x)) refl (lt (narrow x) leastStep) refl (lt mostStep (narrow x)) refl
+  where
+    class : Bool → Bool → Bool → ℕ
+    class n a b = cond n (cond a 2 (cond b 3 1)) 0
+
+    go : (n : Bool) → (positive (narrow x) && finite (narrow x)) ≡ n → (a : Bool) → lt (narrow x) leastStep ≡ a → (b : Bool) → lt mostStep (narrow x) ≡ b
+        → Classed (some x) (class n a b) (cond (eqb (class n a b) 1) (narrow x) zeroFloat)
+    go false h a p b q = no-distance h
+    go true h true p b q = smaller h p
+    go true h false p true q = larger h p q
+    go true h false p false q = used h p q
+
+class-is : (z : Option Float) (c : ℕ) (y : Float) → Classed z c y → (classOf z ≡ c) × (zOf z ≡ y)
+unfolding zFloat zClass keptZ
+class-is z c y no-step = (refl, refl)
+class-is z c y (no-distance h) = rw h (refl, refl)
+class-is z c y (smaller h p) = rw (h, p) (refl, refl)
+class-is z c y (larger h p q) = rw (h, p, q) (refl, refl)
+class-is z c y (used h p q) = rw (h, p, q) (refl, refl)
+
 -- ---- what calibration gives
 
 module _ (s m : List ℕ) (es : List MapEntry) (room : ℕ) (z : Option Float) where
@@ -59,20 +91,20 @@ module _ (s m : List ℕ) (es : List MapEntry) (room : ℕ) (z : Option Float) w
   name = ascii "ImageCalibrationLV|0!"
 
   -- what opening makes of a tree of the calibration
-  size-tree : (r : Range) (size : Calibration) → Named s m es name r → calibrationBy s z (treeEntries (within room (treeIn s r))) ≡ given size
+  size-tree : (r : Range) (size : Calibration) → Named s m es name r → calibrationBy s (zFloat z) (treeEntries (within room (treeIn s r))) ≡ given size
       → Calibrated s m es z size × (length (treeIn s r .entries) ≤ room)
   unfolding calibrationBy within wholeTree
   size-tree r size x e = go (leb (length (treeIn s r .entries)) room) refl e
     where
-      pixel : (ts : List Entry) → Tree s r ts → (o : Option Float) → pixelSize s ts ≡ o → Calibrated s m es z (stated o z)
+      pixel : (ts : List Entry) → Tree s r ts → (o : Option Float) → pixelSize s ts ≡ o → Calibrated s m es z (stated o (zFloat z))
       pixel ts y none q = unsized x y (no-such _ (pixel-in s ts (tree-means s r ts y)) q)
-      pixel ts y (some c) q = sized x y (pixel-in s ts (tree-means s r ts y) .holds c q)
+      pixel ts y (some c) q = sized x y (pixel-in s ts (tree-means s r ts y) .holds c q) (classed z)
 
       number : (n : ℕ) → treeIn s r .stop ≡ fault n → (b : Bool) → eqb n why.packed ≡ b → Calibrated s m es z (unstated (cond b 2 0))
       number n q true h = ends-packed x (rw (eqb-true n why.packed h) at (fault-read s r n q))
       number n q false h = faulty x (fault-read s r n q) (eqb-false n why.packed h)
 
-      end : (t : Stop) → treeIn s r .stop ≡ t → calibrationBy s z (wholeTree t (treeIn s r .entries)) ≡ given size → Calibrated s m es z size
+      end : (t : Stop) → treeIn s r .stop ≡ t → calibrationBy s (zFloat z) (wholeTree t (treeIn s r .entries)) ≡ given size → Calibrated s m es z size
       end (at p) q e = subst (Calibrated s m es z) (given-inj e) (pixel (treeIn s r .entries) (tree-read s r p q) _ refl)
       end (fault n) q e =
           let low = fault-low s r n q in
@@ -80,25 +112,25 @@ module _ (s m : List ℕ) (es : List MapEntry) (room : ℕ) (z : Option Float) w
           subst (Calibrated s m es z) (given-inj (rw (ne-eqb n why.table (λ z. omega arith)) at e₂)) (number n q (eqb n why.packed) refl)
 
       go : (b : Bool) → leb (length (treeIn s r .entries)) room ≡ b
-          → calibrationBy s z (treeEntries (cond b (treeIn s r) (record { entries = take room (treeIn s r .entries); stop = fault why.table }))) ≡ given size
+          → calibrationBy s (zFloat z) (treeEntries (cond b (treeIn s r) (record { entries = take room (treeIn s r .entries); stop = fault why.table }))) ≡ given size
           → Calibrated s m es z size × (length (treeIn s r .entries) ≤ room)
       go true q e = (end (treeIn s r .stop) refl e, leb-true _ _ q)
       go false q e = absurd (refused≢given e)
 
-  pub calibration-read : (size : Calibration) → calibration s m es room z ≡ given size
+  pub calibration-read : (size : Calibration) → calibration s m es room (zFloat z) ≡ given size
       → Calibrated s m es z size × ((r : Range) → Named s m es name r → length (treeIn s r .entries) ≤ room)
   unfolding calibration namedTree andThen calibrationBy
   calibration-read size e = go (namedChunk s m es name) refl (named-numbered s m es name) e
     where
       go : (x : Answer Range) → namedChunk s m es name ≡ x → Numbered Missing x
-          → calibrationBy s z (andThen x λ r. treeEntries (within room (treeIn s r))) ≡ given size
+          → calibrationBy s (zFloat z) (andThen x λ r. treeEntries (within room (treeIn s r))) ≡ given size
           → Calibrated s m es z size × ((r : Range) → Named s m es name r → length (treeIn s r .entries) ≤ room)
       go (refused n) q (refusal h) e = (number n h e, λ r x. absurd (no-chunk-there r x))
         where
           no-chunk-there : (r : Range) → Named s m es name r → ⊥
           no-chunk-there r x = refused≢given (sym q ∙ read-named s m es name r x)
 
-          number : (n : ℕ) → Missing n → calibrationBy s z (refused n) ≡ given size → Calibrated s m es z size
+          number : (n : ℕ) → Missing n → calibrationBy s (zFloat z) (refused n) ≡ given size → Calibrated s m es z size
           number n no-entry e = subst (Calibrated s m es z) (given-inj e) (missing no-chunk-there)
           number n no-chunk e = subst (Calibrated s m es z) (given-inj e) (missing no-chunk-there)
       go (given r) q h e =
@@ -108,10 +140,11 @@ module _ (s m : List ℕ) (es : List MapEntry) (room : ℕ) (z : Option Float) w
 
   -- and the other way round
   pub read-calibration : (size : Calibration) → Calibrated s m es z size → ((r : Range) → Named s m es name r → length (treeIn s r .entries) ≤ room)
-      → calibration s m es room z ≡ given size
+      → calibration s m es room (zFloat z) ≡ given size
   unfolding calibration
-  read-calibration size (sized {r = r} {ts = ts} {x = c} x y p) fit =
-      rw (given-tree s m es name room ts r x y (fit r x), pixel-in s ts (tree-means s r ts y) .only c p) refl
+  read-calibration size (sized {r = r} {ts = ts} {x = c} x y p k) fit =
+      let (e₁, e₂) = class-is z _ _ k in
+      rw (given-tree s m es name room ts r x y (fit r x), pixel-in s ts (tree-means s r ts y) .only c p, e₂, e₁) refl
   read-calibration size (unsized {r = r} {ts = ts} x y n) fit =
       rw (given-tree s m es name room ts r x y (fit r x), none-of _ (pixel-in s ts (tree-means s r ts y)) n) refl
   read-calibration size (ends-packed {r = r} x y) fit =
@@ -122,7 +155,7 @@ module _ (s m : List ℕ) (es : List MapEntry) (room : ℕ) (z : Option Float) w
       rw (refused-tree s m es name room n r x q (fit r x), ne-eqb n why.table (λ e. omega arith), ne-eqb n why.packed h) refl
   read-calibration size (missing f) fit = go (namedChunk s m es name) refl (named-numbered s m es name)
     where
-      go : (x : Answer Range) → namedChunk s m es name ≡ x → Numbered Missing x → calibrationBy s z (namedTree s m es room name) ≡ given (unstated 0)
+      go : (x : Answer Range) → namedChunk s m es name ≡ x → Numbered Missing x → calibrationBy s (zFloat z) (namedTree s m es room name) ≡ given (unstated 0)
       go (given r) q h = absurd (f r (named-read s m es name r q))
       go (refused n) q (refusal no-entry) = rw (refused-chunk s m es name room why.missing q) refl
       go (refused n) q (refusal no-chunk) = rw (refused-chunk s m es name room why.chunk q) refl

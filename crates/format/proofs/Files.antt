@@ -50,7 +50,7 @@ module _ (s : List ℕ) (room : ℕ) (u : Summary) where
       → namedTree s (dataIn s r) es room (ascii "ImageAttributesLV!") ≡ given ats → attributes s ats ≡ given a
       → namedTree s (dataIn s r) es room (ascii "ImageMetadataLV!") ≡ given ts
       → asLevel (field s ts 0 (ascii "SLxExperiment")) ≡ some i → experiment s ts i ≡ given ls → planeBytes a ≤ most64
-      → Calibrated s (dataIn s r) es (zFloat (zStep mostDepth s ts i)) z
+      → Calibrated s (dataIn s r) es (zStep mostDepth s ts i) z
       × ((q : Range) → Named s (dataIn s r) es (ascii "ImageCalibrationLV|0!") q → length (treeIn s q .entries) ≤ room)
       → u ≡ summaryOf r a ls z → Joined s u × Enough s room
   joined r es ats a ts i ls z mp n₁ ao n₂ lv lo pm (cal, fit) su =
@@ -116,7 +116,7 @@ module _ (s : List ℕ) (room : ℕ) (u : Summary) where
       let (f₈, e₈) = refuseIf-given (ltb most64 (planeBytes a)) why.frameShape _ e₇ in
       let (z, f₉, e₉) = andThen-given (calibration s m es room (zFloat (zStep mostDepth s ts i))) _ e₈ in
       joined r es ats a ts i ls z (mapped-read s r es f₁ f₂) f₃ f₄ f₅ (orRefuse-given _ why.missing f₆) f₇
-      (ltb-false most64 (planeBytes a) f₈) (calibration-read s m es room (zFloat (zStep mostDepth s ts i)) z f₉) (sym (given-inj e₉))
+      (ltb-false most64 (planeBytes a) f₈) (calibration-read s m es room (zStep mostDepth s ts i) z f₉) (sym (given-inj e₉))
 
   length-fits : Enough s room → (r : Range) (es : List MapEntry) (name : List ℕ) (q : Range) → Mapped s r es → TreeRead name → Named s (dataIn s r) es name q
       → length (treeIn s q .entries) ≤ room
@@ -147,7 +147,7 @@ module _ (s : List ℕ) (room : ℕ) (u : Summary) where
       (not-refused (ltb most64 (planeBytes a)) why.frameShape _ _ (le-ltb _ _ (x .plane-most))
       (go-on (calibration s m es room (zFloat (zStep mostDepth s ts i))) _ (x .size)
       (ap (λ (z : Option Float). calibration s m es room (zFloat z)) (read-step s ts D R M i (x .experiment-there) (x .step) (x .step-found))
-      ∙ read-calibration s m es room (zFloat (x .step)) (x .size) (x .calibrated) (λ q y. length-fits fit r es (ascii "ImageCalibrationLV|0!") q (x .mapped) calibrationTree y))
+      ∙ read-calibration s m es room (x .step) (x .size) (x .calibrated) (λ q y. length-fits fit r es (ascii "ImageCalibrationLV|0!") q (x .mapped) calibrationTree y))
       (ap given (sym (x .summary)))))))))))
 
   -- (b) what is opened is what the grammar joins to the bytes, where the table has entries enough

@@ -235,21 +235,17 @@ module _ (m : List ℕ) (i n : ℕ) (h : throughMark (drop i m) ≡ some n) wher
     map-entry room l = rw (h, e, le-ltb (length m) (i + n + 16) l)
 
 -- the offset of the last entry of a name among entries, or the one that came before them
-unfoldable pub orLast : Option ℕ → Option ℕ → Option ℕ
-orLast (some o) l = some o
-orLast none l = l
-
 unfoldable pub lastOf : List ℕ → List ℕ → Option ℕ → Answer (List MapEntry) → Answer (Option ℕ)
-unfolding orLast
+unfolding laterOf
 lastOf m name l (refused n) = refused n
-lastOf m name l (given es) = given (orLast (offsetOf m name es) l)
+lastOf m name l (given es) = given (laterOf (offsetOf m name es) l)
 
 pub last-start : (m name : List ℕ) (a : Answer (List MapEntry)) → (andThen a λ es. given (offsetOf m name es)) ≡ lastOf m name none a
 unfolding lastOf andThen
 last-start m name (refused n) = refl
 last-start m name (given es) = ap given (by (offsetOf m name es))
   where
-    by : (o : Option ℕ) → o ≡ orLast o none
+    by : (o : Option ℕ) → o ≡ laterOf o none
     by none = refl
     by (some o) = refl
 
@@ -264,7 +260,7 @@ unfolding lastOf andThen prepend offsetOf laterOf
 last-entry m name e l (refused n) = refl
 last-entry m name e l (given es) = ap given (by (offsetOf m name es) (same (part m (e .nameAt) (e .nameLen)) name))
   where
-    by : (o : Option ℕ) (b : Bool) → orLast (laterOf o (cond b (some (e .offset)) none)) l ≡ orLast o (gives b (e .offset) l)
+    by : (o : Option ℕ) (b : Bool) → laterOf (laterOf o (cond b (some (e .offset)) none)) l ≡ laterOf o (gives b (e .offset) l)
     by (some o) b = refl
     by none true = refl
     by none false = refl

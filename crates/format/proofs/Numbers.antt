@@ -1,4 +1,5 @@
--- The readings of a double by its value: narrowing sees only the value, an unsigned reading the sign, and finite is below the infinity. Assumes nothing.
+-- The readings of a double by its value: narrowing sees only the value, an unsigned reading the sign, and finite is below the infinity; the bits of the
+-- z step's limits. Assumes nothing.
 use mathlib.Core.Path.{_≡_, refl, ap, _∙_}
 use mathlib.Core.Bool.{Bool, true, false, cond, true≢false, false≢true}
 use mathlib.Core.Option.{none, some}
@@ -6,11 +7,12 @@ use Prim.Native.Nat.{ℕ, _+_, _*_, _<_}
 use native.Mathlib.Nat.{mul-pos, zero-mul}
 use native.Mathlib.Omega.{arith}
 use borrow.Author.Tests.{le-ltb, lt-ltb}
-use lib.Ieee.{Float, nan, inf, fin, binary32, up, down, round, isNan, lt, toUnsigned}
+use lib.Ieee.{Float, nan, inf, fin, binary32, up, down, round, ofBits, isNan, lt, toUnsigned}
 use lib.Ieee.Fits.{down-pos}
 use lib.Ieee.Exact.{HasValue}
 use lib.Ieee.Scale.{round-same}
 use Rattle.format.specs.Numbers.{unsignedFloat, narrow, positive, finite}
+use Rattle.format.specs.Calibration.{leastStep, mostStep}
 
 pub narrow-is : (v : Float) (s : Bool) (a c : ℕ) → 0 < c → HasValue v s a c → narrow v ≡ round binary32 s a c
 unfolding narrow
@@ -65,3 +67,13 @@ finite-below nan h = refl
 finite-below (inf true) h = absurd (false≢true h)
 finite-below (inf false) h = refl
 finite-below (fin s m e) h = refl
+
+-- ---- "(1e-6 to 1e3)", by their bits
+
+pub least-bits : leastStep ≡ ofBits binary32 0x358637BD
+unfolding round ofBits
+least-bits = refl
+
+pub most-bits : mostStep ≡ ofBits binary32 0x447A0000
+unfolding round ofBits
+most-bits = refl

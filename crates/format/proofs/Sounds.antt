@@ -1,15 +1,16 @@
 -- A summary that a file is joined to passes the test 20. Assumes nothing.
-use Prim.Native.Nat.{ℕ, suc, _≤_, _<_, max}
+use Prim.Native.Nat.{ℕ, _≤_, _<_}
 use mathlib.Core.Path.{_≡_, sym, _∙_, subst}
-use mathlib.Core.List.{List, [], _∷_, _++_, map, reverse, reverseAux}
+use mathlib.Core.List.{List, [], _∷_, _++_, reverse}
 use native.Mathlib.Omega.{arith}
 use lib.ListN.{length, take, replicate}
 use lib.Seq.{take-take, take-append-seam}
+use Rattle.format.proofs.Appended.{Each, no-more, one, walks-each, each-reverse}
 use Rattle.format.proofs.Frames.{axis-number}
 use Rattle.format.specs.declared.Attributes.{Attributes}
 use Rattle.format.specs.Loops.{mostCount, Built, axisNumber}
 use Rattle.format.specs.Summary.{noLoop, inThree, summaryOf}
-use Rattle.format.specs.Grammar.Loops.{Distinct, Counted, Appended, first, deeper, larger, dropped, Walks, done, stops, spectral, appends, loopOf, LoopsOf}
+use Rattle.format.specs.Grammar.Loops.{Distinct, Counted, Walks, OnAxes, LoopsOf}
 use Rattle.format.specs.Grammar.Loops.{nil, cons}
 use Rattle.format.specs.Grammar.File.{Joined}
 use Rattle.format.specs.Refused.Summary.{Sound}
@@ -21,33 +22,16 @@ use Rattle.format.specs.declared.Summary.{Summary}
 
 -- ---- counts
 
-data InRange : List Built → Type 0 where
-  no-more : InRange []
-  one : {b : Built} {bs : List Built} → 0 < b .count → b .count ≤ mostCount → InRange bs → InRange (b ∷ bs)
+abbrev InRange : ℕ → ℕ → Type 0
+InRange t c = (0 < c) × (c ≤ mostCount)
 
-appended-range : (t c n : ℕ) (bs bs′ : List Built) → 0 < c → c ≤ mostCount → Appended t c n bs bs′ → InRange bs → InRange bs′
-appended-range t c n bs bs′ h k first r = one h k no-more
-appended-range t c n bs bs′ h k (deeper l) r = one h k r
-appended-range t c n bs bs′ h k (larger {b = b} p q) (one h₂ k₂ r) =
-    let x : 0 < max (b .count) c = omega arith in
-    let y : max (b .count) c ≤ mostCount = omega arith in
-    one x y r
-appended-range t c n bs bs′ h k (dropped l f) r = r
+in-range : (s : List ℕ) (es : List Entry) (is : List ℕ) (n : ℕ) (bs : List Built) → Walks s es is n [] bs → Each InRange (reverse bs)
+in-range s es is n bs w =
+    each-reverse InRange bs [] (walks-each s es InRange (λ i t c x _. (x .count-some, x .count-most)) (λ t c d h k. (omega arith, omega arith)) is n [] bs w no-more) no-more
 
-walks-range : (s : List ℕ) (es : List Entry) (is : List ℕ) (n : ℕ) (bs bs′ : List Built) → Walks s es is n bs bs′ → InRange bs → InRange bs′
-walks-range s es is n bs bs′ done r = r
-walks-range s es is n bs bs′ (stops {is = js} x w) r = walks-range s es js n bs bs′ w r
-walks-range s es is n bs bs′ (spectral {is = js} {ks = ks} {bs₁ = cs} x b k w) r = walks-range s es js n cs bs′ w (walks-range s es ks n bs cs k r)
-walks-range s es is n bs bs′ (appends {t = t} {c = c} {is = js} {ks = ks} {bs₁ = cs} {bs₂ = ds} x h a b k w) r =
-    walks-range s es js n ds bs′ w (walks-range s es ks (suc n) cs ds k (appended-range t c n bs cs (x .count-some) (x .count-most) a r))
-
-reverse-range : (bs cs : List Built) → InRange bs → InRange cs → InRange (reverseAux bs cs)
-reverse-range [] cs r q = q
-reverse-range (b ∷ bs) cs (one h k r) q = reverse-range bs (b ∷ cs) r (one h k q)
-
-range-counted : (bs : List Built) → InRange bs → Counted (map loopOf bs)
-range-counted [] r = nil
-range-counted (b ∷ bs) (one h k r) = cons h k (range-counted bs r)
+range-counted : (bs : List Built) (ls : List Loop) → OnAxes bs ls → Each InRange bs → Counted ls
+range-counted [] ls nil r = nil
+range-counted (b ∷ bs) ls (cons {l = l} {ls = ms} o e x) (one (h, k) r) = cons {l = l} (rw e h) (rw e k) (range-counted bs ms x r)
 
 -- ---- at most three loops
 
@@ -93,8 +77,7 @@ joined-sound s u x = subst (Sound s) (sym (x .summary)) sound
 
     all-counted : Counted (x .loops)
     all-counted =
-        subst Counted (sym (lo .in-order))
-        (range-counted (reverse (lo .built)) (reverse-range (lo .built) [] (walks-range s (x .experiment-tree) (x .experiment-level ∷ []) 0 [] (lo .built) (lo .walked) no-more) no-more))
+        range-counted (reverse (lo .built)) (x .loops) (lo .on-axes) (in-range s (x .experiment-tree) (x .experiment-level ∷ []) 0 (lo .built) (lo .walked))
 
     sound : Sound s (summaryOf (x .map-place) a (x .loops) (x .size))
     sound =

@@ -5,7 +5,7 @@ use mathlib.Core.List.{List, [], _∷_, _++_, append-assoc}
 use native.Mathlib.Omega.{arith}
 use native.Mathlib.Nat.{add-zero, zero-add}
 use borrow.Author.Tests.{le-leb, lt-leb}
-use lib.ListN.{length, getD, length-append}
+use lib.ListN.{length, length-append}
 use lib.Seq.{sets, sets-eq}
 use Rattle.format.proofs.Bytes.{le-after, le-before, le-leBytes, leBytes-length, sets-append}
 use Rattle.format.specs.Bytes.{le, leBytes, over}
@@ -86,13 +86,6 @@ entry-later e ys i =
     let q0 : le 8 (entryBytes e ++ ys) (48 * suc i) ≡ le 8 ys (48 * i) = simp add-zero at (q 0) in
     λ k. record { kind = q0 k; name = q 8 k; units = q 16 k; value = q 24 k; size = q 32 k; parent = q 40 k }
 
--- entry number i of those that were stored at a table's start
-pub entry-back : (es : List Entry) (ys : List ℕ) (i : ℕ) (z : Entry) → AllFit es → i < length es → entryIn (tableBytes es ++ ys) i ≡ getD es i z
-unfolding tableBytes
-entry-back [] ys i z f h = absurd (omega arith)
-entry-back (e ∷ es) ys zero z f h = rw append-assoc (entry-first e (tableBytes es ++ ys) (f .0))
-entry-back (e ∷ es) ys (suc i) z f h = rw append-assoc (entry-later e (tableBytes es ++ ys) i ∙ entry-back es ys i z (f .1) (omega arith))
-
 -- rows that agree, and a row with one in front
 firsts-agree : (n : ℕ) (e f : ℕ → Entry) → ((i : ℕ) → e i ≡ f i) → firsts n e ≡ firsts n f
 unfolding firsts
@@ -115,9 +108,3 @@ entries-back (e ∷ es) ys f =
     ap (λ (x : List ℕ). entriesIn x (suc (length es))) t ∙ firsts-cons (length es) (entryIn (entryBytes e ++ (tableBytes es ++ ys)))
     ∙ ap (λ (x : Entry). x ∷ firsts (length es) (λ i. entryIn (entryBytes e ++ (tableBytes es ++ ys)) (suc i))) a
     ∙ ap (λ (l : List Entry). e ∷ l) (b ∙ entries-back es ys (f .1))
-
--- each number of an entry fits
-pub fit-at : (es : List Entry) (i : ℕ) (z : Entry) → AllFit es → i < length es → Fit (getD es i z)
-fit-at [] i z f h = absurd (omega arith)
-fit-at (e ∷ es) zero z f h = f .0
-fit-at (e ∷ es) (suc i) z f h = fit-at es i z (f .1) (omega arith)

@@ -1,6 +1,6 @@
 -- The grammar's loops are those that the walk finds. Assumes nothing.
 use Prim.Native.Nat.{ℕ, zero, suc, max}
-use mathlib.Core.Path.{_≡_, refl, sym, ap, _∙_}
+use mathlib.Core.Path.{_≡_, refl, sym, ap, _∙_, subst}
 use mathlib.Core.Bool.{Bool, true, false, cond, _&&_}
 use mathlib.Core.List.{List, [], _∷_, _++_, map, reverse, append-assoc, append-nil}
 use native.Mathlib.Omega.{arith}
@@ -10,17 +10,18 @@ use Rattle.format.proofs.Answers.{refused≢given, refuseIf-given, andT
 use Rattle.format.proofs.Means.{Means}
 use Rattle.format.proofs.Loops.{Told, told, stops-said, loop-said, below-in}
 use Rattle.format.proofs.Depths.{Ranked}
+use Rattle.format.proofs.Appended.{Each, one, Axial, walks-axial, loopOf, on-axes, not-custom}
 use Rattle.format.proofs.Below.{Fine, not-deepest, kids-fine, top-fine}
 use Rattle.format.proofs.Frames.{has-free, free-has}
 use Rattle.format.specs.Answer.{given, andThen}
 use Rattle.format.specs.Bytes.{ascii}
 use Rattle.format.specs.Trees.{mostDepth}
 use Rattle.format.specs.Values.{level, fieldIn}
-use Rattle.format.specs.Loops.{childLevels, Said, nothing, wrong, loop, supported, said, Built, append, walkAll, walkOne, walk, axisOf, hasAxis, judge, experiment}
+use Rattle.format.specs.Loops.{childLevels, Said, nothing, wrong, loop, said, Built, append, walkAll, walkOne, walk, axisOf, hasAxis, judge, experiment}
 use Rattle.format.specs.Grammar.Lists.{All, more}
 use Rattle.format.specs.Grammar.Values.{Field}
 use Rattle.format.specs.Grammar.Loops.{LoopAt}
-use Rattle.format.specs.Grammar.Loops.{Appended, first, deeper, larger, dropped, Walks, done, stops, spectral, appends, loopOf, Supported, Free, Distinct, LoopsOf}
+use Rattle.format.specs.Grammar.Loops.{Appended, first, deeper, larger, dropped, Walks, done, stops, spectral, appends, OnAxes, Free, Distinct, LoopsOf}
 use Rattle.format.specs.Grammar.Loops.{nil, cons}
 use Rattle.format.specs.declared.Entry.{Entry}
 use Rattle.format.specs.declared.Axis.{Axis}
@@ -126,20 +127,21 @@ distinct-free (k ∷ ls) l ms (cons f d) = cons (λ e. free-head (k .axis) ls l 
 snoc-more : (ls : List Loop) (l : Loop) (ms : List Loop) → (ls ++ l ∷ []) ++ ms ≡ ls ++ l ∷ ms
 snoc-more ls l ms = append-assoc ls (l ∷ []) ms
 
-judge-read : (ls : List Loop) (bs : List Built) (ms : List Loop) → Distinct ls → judge ls bs ≡ given ms → Supported bs × (ms ≡ ls ++ map loopOf bs) × Distinct ms
+judge-read : (ls : List Loop) (bs : List Built) (ms : List Loop) → Each Axial bs → Distinct ls → judge ls bs ≡ given ms
+    → OnAxes bs (map loopOf bs) × (ms ≡ ls ++ map loopOf bs) × Distinct ms
 unfolding judge
-judge-read ls [] ms d e = let q : ls ≡ ms = given-inj e in (nil, sym q ∙ sym (append-nil ls), rw (← q) d)
-judge-read ls (b ∷ bs) ms d e =
+judge-read ls [] ms a d e = let q : ls ≡ ms = given-inj e in (nil, sym q ∙ sym (append-nil ls), rw (← q) d)
+judge-read ls (b ∷ bs) ms (one k a) d e =
     let (f₁, e₁) = refuseIf-given (eqb (b .kind) 7) 15 _ e in
     let (f₂, e₂) = refuseIf-given (hasAxis (axisOf (b .kind)) ls) 17 _ e₁ in
-    let (r₁, r₂, r₃) = judge-read (ls ++ loopOf b ∷ []) bs ms (distinct-snoc ls (loopOf b) d (has-free (axisOf (b .kind)) ls f₂)) e₂ in
-    (cons (eqb-false _ _ f₁) r₁, r₂ ∙ snoc-more ls (loopOf b) (map loopOf bs), r₃)
+    let (r₁, r₂, r₃) = judge-read (ls ++ loopOf b ∷ []) bs ms a (distinct-snoc ls (loopOf b) d (has-free (axisOf (b .kind)) ls f₂)) e₂ in
+    (cons (k (eqb-false _ _ f₁)) refl r₁, r₂ ∙ snoc-more ls (loopOf b) (map loopOf bs), r₃)
 
-read-judge : (ls : List Loop) (bs : List Built) → Supported bs → Distinct (ls ++ map loopOf bs) → judge ls bs ≡ given (ls ++ map loopOf bs)
+read-judge : (ls : List Loop) (bs : List Built) → OnAxes bs (map loopOf bs) → Distinct (ls ++ map loopOf bs) → judge ls bs ≡ given (ls ++ map loopOf bs)
 unfolding judge
 read-judge ls [] x d = rw append-nil refl
-read-judge ls (b ∷ bs) (cons h x) d =
-    not-refused (eqb (b .kind) 7) 15 _ _ (ne-eqb _ _ h)
+read-judge ls (b ∷ bs) (cons o e x) d =
+    not-refused (eqb (b .kind) 7) 15 _ _ (ne-eqb _ _ (not-custom (b .kind) _ o))
     (not-refused (hasAxis (axisOf (b .kind)) ls) 17 _ _ (free-has (axisOf (b .kind)) ls (distinct-free ls (loopOf b) (map loopOf bs) d))
     (read-judge (ls ++ loopOf b ∷ []) bs x (rw snoc-more d) ∙ ap given (snoc-more ls (loopOf b) (map loopOf bs))))
 
@@ -154,12 +156,12 @@ module _ (s : List ℕ) (es : List Entry) (D : ℕ → ℕ) (R : Ranked D 0 es) 
   unfolding experiment walkAll
   loops-read ls e =
       let (bs, e₁, e₂) = andThen-given (walk mostDepth s es i 0 []) _ e in
-      let (r₁, r₂, r₃) = judge-read [] (reverse bs) ls nil e₂ in
+      let w = walk-walks s es D R M mostDepth (i ∷ []) 0 [] bs fine (go-on (walk mostDepth s es i 0 []) _ bs e₁ refl) in
+      let (r₁, r₂, r₃) = judge-read [] (reverse bs) ls (walks-axial s es (i ∷ []) 0 bs w) nil e₂ in
       record {
         built = bs;
-        walked = walk-walks s es D R M mostDepth (i ∷ []) 0 [] bs fine (go-on (walk mostDepth s es i 0 []) _ bs e₁ refl);
-        supported = r₁;
-        in-order = r₂;
+        walked = w;
+        on-axes = subst (OnAxes (reverse bs)) (sym r₂) r₁;
         distinct = r₃;
       }
 
@@ -167,5 +169,7 @@ module _ (s : List ℕ) (es : List Entry) (D : ℕ → ℕ) (R : Ranked D 0 es) 
   unfolding experiment walkAll
   read-loops ls x =
       let (bs, e₁, e₂) = andThen-given (walk mostDepth s es i 0 []) _ (walks-walk s es D R M mostDepth (i ∷ []) 0 [] (x .built) fine (x .walked)) in
-      let j : judge [] (reverse (x .built)) ≡ given (map loopOf (reverse (x .built))) = read-judge [] (reverse (x .built)) (x .supported) (rw (x .in-order) at (x .distinct)) in
-      go-on (walk mostDepth s es i 0 []) _ (x .built) (e₁ ∙ e₂) (j ∙ ap given (sym (x .in-order)))
+      let e : ls ≡ map loopOf (reverse (x .built)) = on-axes (reverse (x .built)) ls (x .on-axes) in
+      let j : judge [] (reverse (x .built)) ≡ given (map loopOf (reverse (x .built))) =
+      read-judge [] (reverse (x .built)) (subst (OnAxes (reverse (x .built))) e (x .on-axes)) (subst Distinct e (x .distinct)) in
+      go-on (walk mostDepth s es i 0 []) _ (x .built) (e₁ ∙ e₂) (j ∙ ap given (sym e))

@@ -17,9 +17,9 @@ use Rattle.format.specs.declared.Attributes.{Attributes}
 abbrev pub sampleBytes : ℕ → ℕ
 sampleBytes b = b / 8
 
--- "width × components × sample bytes"
-abbrev pub rowBytes : Attributes → ℕ
-rowBytes a = a .width * a .components * sampleBytes (a .bits)
+-- "width × components × sample bytes": the least that "row bytes", the stride, may be
+abbrev pub leastRow : Attributes → ℕ
+leastRow a = a .width * a .components * sampleBytes (a .bits)
 
 -- "the plane product width × height × sample bytes"
 abbrev pub planeBytes : Attributes → ℕ
@@ -29,8 +29,8 @@ planeBytes a = a .width * a .height * sampleBytes (a .bits)
 -- after the loops.
 unfoldable pub badShape : Attributes → Bool
 badShape a =
-    eqb (a .width) 0 || eqb (a .height) 0 || eqb (a .components) 0 || ltb 1024 (a .components) || ltb most64 (rowBytes a)
-    || ltb (a .stride) (rowBytes a)
+    eqb (a .width) 0 || eqb (a .height) 0 || eqb (a .components) 0 || ltb 1024 (a .components) || ltb most64 (leastRow a)
+    || ltb (a .stride) (leastRow a)
 
 -- "not 8, 16 or 32"
 unfoldable pub badBits : ℕ → Bool

@@ -5,7 +5,7 @@ use mathlib.Core.Option.{Option, none, some}
 use mathlib.Core.List.{List, [], _∷_}
 use lib.Dec.{ltb, eqb}
 use lib.IntN.{ℤ, pos, negsuc}
-use lib.Ieee.{Float, binary32, binary64, ofBits, ofInt, ne, lt, sub, div}
+use lib.Ieee.{Float, binary32, binary64, round, ofInt, ne, lt, sub, div}
 use Rattle.format.specs.Bytes.{ascii}
 use Rattle.format.specs.Answer.{Answer, given, refused}
 use Rattle.format.specs.Refusals as why
@@ -67,12 +67,12 @@ zStep (suc levels) s es i =
     orElse (stepAt s es i)
     (firstOf (zStep levels s es) (childLevels s es (fieldIn s es i (ascii "ppNextLevelEx"))))
 
--- "(1e-6 to 1e3)", in f32
+-- "In f32: .. (1e-6 to 1e3)": the f32 nearest to 1 / 1,000,000 and to 1,000
 abbrev pub leastStep : Float
-leastStep = ofBits binary32 0x358637BD
+leastStep = round binary32 false 1 1_000_000
 
 abbrev pub mostStep : Float
-mostStep = ofBits binary32 0x447A0000
+mostStep = round binary32 false 1000 1
 
 -- "In f32: class 0 none or not a positive finite number, 1 used (1e-6 to 1e3), 2 smaller, 3 larger."
 unfoldable pub zClass : Option Float → ℕ

@@ -1,5 +1,5 @@
 -- "Calibration and channels": ImageMetadataSeqLV|0!, SLxPictureMetadata, sPicturePlanes, level sPlaneNew, else sPlane.
-use Prim.Native.Nat.{ℕ, suc, _/_, _%_, _+_}
+use Prim.Native.Nat.{ℕ, suc, _/_, _%_}
 use mathlib.Core.Bool.{cond}
 use mathlib.Core.Option.{Option, none, some}
 use mathlib.Core.List.{List, [], _∷_, _++_}

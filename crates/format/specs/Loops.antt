@@ -128,7 +128,7 @@ pub data Said : Type 0 where
   wrong : ℕ → Said
   loop : ℕ → ℕ → Said
 
--- "Types 1 and 8 are T, 2 P, 4 Z, 6 spectral (never appended), 7 custom; others are refused in the walk (15)"
+-- "others are refused in the walk (15)": those that are not
 unfoldable pub supported : ℕ → Bool
 supported t = eqb t 1 || eqb t 2 || eqb t 4 || eqb t 6 || eqb t 7 || eqb t 8
 
@@ -191,7 +191,7 @@ walk (suc levels) s es i n bs = walkOne (walk levels s es) (childLevels s es (fi
 
 -- ---- "after it the appended loops are judged in order: a 7 gives 15, a second one of an axis 17"
 
--- the axis of a type
+-- "Types 1 and 8 are T, 2 P, 4 Z": the axis of an appended type. Custom, 7, is refused before it is asked
 abbrev pub axisOf : ℕ → Axis
 axisOf t = cond (eqb t 4) Z (cond (eqb t 2) P T)
 

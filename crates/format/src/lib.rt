@@ -1,5 +1,6 @@
 // The types that every crate of the reader shares. What they have to hold is stated in specs/, document 01 as definitions.
 
+pub mod clx_type;
 pub mod refusal;
 
 // A part of a file: its first byte's position and its length.

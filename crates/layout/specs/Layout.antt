@@ -82,7 +82,7 @@ channelBytes c =
     leBytes 8 (c .named) ++ leBytes 8 (c .name) ++ leBytes 8 (c .units) ++ leBytes 8 (c .colored) ++ leBytes 8 (c .red) ++ leBytes 8 (c .green)
     ++ leBytes 8 (c .blue)
 
-unfoldable pub rowBytes : List Channel → List ℕ
+unfoldable pub channelRowBytes : List Channel → List ℕ
 unfolding channelBytes
-rowBytes [] = []
-rowBytes (c ∷ cs) = channelBytes c ++ rowBytes cs
+channelRowBytes [] = []
+channelRowBytes (c ∷ cs) = channelBytes c ++ channelRowBytes cs

@@ -8,6 +8,7 @@ use native.Mathlib.Omega.{arith}
 use lib.Dec.{eqb}
 use lib.ListN.{length}
 use borrow.Author.Tests.{eq-eqb, ne-eqb}
+use Rattle.format.proofs.Bytes.{same-sym}
 use Rattle.format.proofs.Tests.{or-left, or-right, same-true, same-refl}
 use Rattle.format.specs.Bytes.{same}
 use Rattle.format.specs.Values.{Slot, named, unnamed, putNamed, putUnnamed, put, nameOf, slotsOf, find}
@@ -28,15 +29,6 @@ or-swap false b c = refl
 or-twice : (a c : Bool) → (a || c) ≡ (a || (a || c))
 or-twice true c = refl
 or-twice false c = refl
-
-same-sym : (m n : List ℕ) → same m n ≡ same n m
-same-sym m n = go (same m n) (same n m) refl refl
-  where
-    go : (a b : Bool) → same m n ≡ a → same n m ≡ b → a ≡ b
-    go true true h k = refl
-    go false false h k = refl
-    go true false h k = sym (same-refl n) ∙ (rw (same-true m n h) at k)
-    go false true h k = sym (rw (same-true n m k) at h) ∙ same-refl m
 
 -- ---- well-formed slots
 

@@ -9,8 +9,8 @@ ghost use Rattle.lookup.specs.Values.{kids, headOf, listAt, elementsOf};
 use crate::Found;
 use crate::entry::entry_at;
 use crate::entry::parent_at;
-use crate::value::LEVEL;
 use crate::value::is_list;
+use format::clx_type;
 
 // The first unnamed child of a level from entry `from` of its run on.
 pub fn next_unnamed(table: &[u8], used: usize, parent: usize, from: usize) -> Found
@@ -40,7 +40,7 @@ fn list_at(table: &[u8], used: usize, i: usize) -> bool
     ensures { λ r. ⌜ ((s : List ℕ) → r ≡ listAt s (entryIn (now (table .entry))) used i) ⌝ }
 {
     let e = entry_at(table, i);
-    if e.kind == LEVEL {
+    if e.kind == clx_type::LEVEL {
         is_list(table, used, i + 1)
     } else {
         false

@@ -19,13 +19,11 @@ use crate::entry::entry_at;
 use cursor::le4;
 use cursor::le8;
 use format::Entry;
+use format::clx_type;
 use number::Integer;
 use number::Natural;
 use number::Real;
 use number::double_of;
-
-// The type of a level's entry.
-pub const LEVEL: u64 = 11;
 
 // Whether a level is a list: it has children, and none has a name.
 pub fn is_list(table: &[u8], used: usize, parent: usize) -> bool
@@ -70,25 +68,25 @@ fn leaf_of(file: &[u8], e: Entry) -> ClxValue
 {
     let at = e.value as usize;
     let kind = e.kind;
-    if kind == 1 {
+    if kind == clx_type::BOOL {
         return ClxValue::Flag(file[at] != 0);
     }
-    if kind == 2 {
+    if kind == clx_type::INT32 {
         return signed_of(le4(file, at), 0xFFFF_FFFF);
     }
-    if kind == 3 {
+    if kind == clx_type::UINT32 {
         return ClxValue::Whole(le4(file, at));
     }
-    if kind == 4 {
+    if kind == clx_type::INT64 {
         return signed_of(le8(file, at), 0xFFFF_FFFF_FFFF_FFFF);
     }
-    if kind == 6 {
+    if kind == clx_type::DOUBLE {
         return ClxValue::Double(double_of(le8(file, at)));
     }
-    if kind == 8 {
+    if kind == clx_type::STRING {
         return ClxValue::Text(e.value, e.size / 2);
     }
-    if kind == 9 {
+    if kind == clx_type::BYTEARRAY {
         return ClxValue::Bytes(e.value, e.size);
     }
     ClxValue::Whole(le8(file, at))
@@ -100,7 +98,7 @@ pub fn value_at(file: &[u8], table: &[u8], used: usize, i: usize) -> ClxValue
     ensures { λ r. ⌜ (meaning (now (file .entry)) (entriesIn (now (table .entry)) used) r ≡ valueAt (now (file .entry)) (entriesIn (now (table .entry)) used) i) × Inside used r ⌝ }
 {
     let e = entry_at(table, i);
-    if e.kind == LEVEL {
+    if e.kind == clx_type::LEVEL {
         if is_list(table, used, i + 1) {
             return ClxValue::List(i);
         }
@@ -115,7 +113,7 @@ pub fn level_at(table: &[u8], used: usize, i: usize) -> Found
     ensures { λ r. ⌜ ((s : List ℕ) → found r ≡ asLevel (some (valueAt s (entriesIn (now (table .entry)) used) i))) × Within used r ⌝ }
 {
     let e = entry_at(table, i);
-    if e.kind == LEVEL {
+    if e.kind == clx_type::LEVEL {
         if is_list(table, used, i + 1) {
             return Found::Nothing;
         }
@@ -125,16 +123,6 @@ pub fn level_at(table: &[u8], used: usize, i: usize) -> Found
 }
 
 // ---- readings
-
-// A value that is a level: its entry.
-pub fn as_level(v: ClxValue) -> Found
-    ensures { λ r. ⌜ ((s : List ℕ) (es : List Entry) → found r ≡ asLevel (some (meaning s es v))) × ((n : ℕ) → Inside n v → Within n r) ⌝ }
-{
-    match v {
-        ClxValue::Level(i) => Found::At(i),
-        _ => Found::Nothing,
-    }
-}
 
 // A flag as a number.
 fn one_if(b: bool) -> u64

@@ -6,14 +6,14 @@ ghost use Rattle.format.specs.Bytes.{over};
 ghost use Rattle.plane.specs.Pieces.{pieces, rows};
 ghost use Rattle.plane.specs.Parts.{Alike};
 
-// A long run is copied in so many parts side by side,
+// How many parts of a long run are copied side by side.
 const PARTS: usize = 6;
 
-// so many bytes of each in turn.
+// How many bytes of a part are copied at once.
 const BLOCK: usize = 16;
 
 // Copies src into dst, which is as long.
-fn copy_row(src: &[u8], dst: &mut [u8])
+fn copy_bytes(src: &[u8], dst: &mut [u8])
     requires { ⌜ length (now src) ≡ length (now dst) ⌝ }
     ensures { λ _. ⌜ now (dst .exit) ≡ now (src .entry) ⌝ }
 {
@@ -24,14 +24,14 @@ fn copy_row(src: &[u8], dst: &mut [u8])
     }
 }
 
-// Copies the bytes of a block by way of one of our own, which lies apart from both, so that they are moved at once.
+// Copies a block into dst through a local array. Nothing else lies there, so the compiler reads the block in one piece and writes it in one.
 fn copy_block(src: &[u8], dst: &mut [u8])
     requires { ⌜ (length (now src) ≡ 16) × (length (now dst) ≡ 16) ⌝ }
     ensures { λ _. ⌜ now (dst .exit) ≡ now (src .entry) ⌝ }
 {
     let mut block = [0; BLOCK];
-    copy_row(src, &mut block);
-    copy_row(&block, dst);
+    copy_bytes(src, &mut block);
+    copy_bytes(&block, dst);
 }
 
 // Copies the block at x of each part of `size` bytes.
@@ -49,7 +49,7 @@ fn copy_blocks(src: &[u8], dst: &mut [u8], size: usize, x: usize)
     }
 }
 
-// Copies src into dst, which is as long: parts of it side by side, since memory answers sooner in several places, and then the rest.
+// Copies src into dst, which is as long: equal parts of it side by side, which memory serves faster than one after another, and then the rest.
 fn copy_run(src: &[u8], dst: &mut [u8])
     requires { ⌜ length (now src) ≡ length (now dst) ⌝ }
     ensures { λ _. ⌜ now (dst .exit) ≡ now (src .entry) ⌝ }
@@ -64,31 +64,31 @@ fn copy_run(src: &[u8], dst: &mut [u8])
         i += 1;
     }
     let done = PARTS * size;
-    copy_row(&src[done..], &mut dst[done..]);
+    copy_bytes(&src[done..], &mut dst[done..]);
 }
 
-// Copies src into dst, which is as long: two or four bytes, the samples of 16 and 32 bits, at once, as a block is.
+// Copies src into dst, which is as long: a sample of 16 or 32 bits in one piece, as a block is.
 fn copy_piece(src: &[u8], dst: &mut [u8])
     requires { ⌜ length (now src) ≡ length (now dst) ⌝ }
     ensures { λ _. ⌜ now (dst .exit) ≡ now (src .entry) ⌝ }
 {
     if dst.len() == 2 {
         let mut sample = [0; 2];
-        copy_row(src, &mut sample);
-        copy_row(&sample, dst);
+        copy_bytes(src, &mut sample);
+        copy_bytes(&sample, dst);
         return;
     }
     if dst.len() == 4 {
         let mut sample = [0; 4];
-        copy_row(src, &mut sample);
-        copy_row(&sample, dst);
+        copy_bytes(src, &mut sample);
+        copy_bytes(&sample, dst);
         return;
     }
-    copy_row(src, dst);
+    copy_bytes(src, dst);
 }
 
 // Copies `count` pieces of `size` bytes, at `at`, at + step, .. in src, to the front of dst.
-pub fn copy_pieces(src: &[u8], dst: &mut [u8], at: usize, step: usize, size: usize, count: usize)
+fn copy_pieces(src: &[u8], dst: &mut [u8], at: usize, step: usize, size: usize, count: usize)
     requires { ⌜ (at + size ≤ step) × (count * step ≤ length (now src)) × (count * size ≤ length (now dst)) ⌝ }
     ensures { λ _. ⌜ now (dst .exit) ≡ over (pieces (now (src .entry)) at step size count) (now (dst .entry)) ⌝ }
 {

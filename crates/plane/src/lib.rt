@@ -34,7 +34,7 @@ mod copy; // rows of bytes
 const ACCEPTED: u32 = 0;
 
 // A plane has at most this many bytes.
-const CEILING: u64 = 4_294_967_296;
+const MAX_DECODED_PLANE_BYTES: u64 = 4_294_967_296;
 
 // The data of a point's frame in its file, or the number of a refusal.
 pub enum Frame {
@@ -80,7 +80,7 @@ fn frame_for(file: &[u8], u: Summary, scene: u64, t: u64, c: u64, z: u64, room: 
     if bad_index(u, scene, t, c, z) {
         return Frame::Refused(refusal::INDEX);
     }
-    if product_over(u.width, u.height, u.bits / 8, CEILING) {
+    if product_over(u.width, u.height, u.bits / 8, MAX_DECODED_PLANE_BYTES) {
         return Frame::Refused(refusal::CEILING);
     }
     let map = data_of(file, u.map.start, u.map.len);

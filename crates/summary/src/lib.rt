@@ -21,7 +21,7 @@ ghost use Rattle.format.specs.Grammar.Loops.{Counted, Distinct};
 ghost use Rattle.format.specs.Refused.Plane.{Within};
 
 // A loop has at most this many values.
-const MOST_COUNT: u64 = 1_000_000;
+const MAX_LOOP_COUNT: u64 = 1_000_000;
 
 // The sizes of a frame.
 pub fn shape_of(u: Summary) -> Attributes
@@ -44,7 +44,7 @@ fn used(u: Summary) -> usize
     if depth < 3 { depth } else { 3 }
 }
 
-// Loop i, with those after it.
+// Loop i of those that are used.
 fn loop_at(u: Summary, i: usize) -> Loop
     requires { ⌜ i < length (loopsOf u) ⌝ }
     ensures { λ r. ⌜ drop i (loopsOf u) ≡ r ∷ drop (i + 1) (loopsOf u) ⌝ }
@@ -95,7 +95,7 @@ fn bad_loops(u: Summary) -> bool
     while i < n {
         let l = loop_at(u, i);
         let a = l.axis;
-        if (l.count == 0) | (MOST_COUNT < l.count) | has_axis(u, a, i + 1) {
+        if (l.count == 0) | (MAX_LOOP_COUNT < l.count) | has_axis(u, a, i + 1) {
             return true;
         }
         i += 1;

@@ -1,4 +1,3 @@
-pub mod Back
 pub mod Answers
 pub mod Runs
 pub mod Whole

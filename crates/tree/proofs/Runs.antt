@@ -60,12 +60,6 @@ fit-append (x ∷ xs) ys f g = (f .0, fit-append xs ys (f .1) g)
 abbrev before : List Entry → Read → Read
 before es o = record { entries = es ++ o .entries; stop = o .stop }
 
-before-nil : (o : Read) → before [] o ≡ o
-before-nil o = refl
-
-before-before : (xs ys : List Entry) (o : Read) → before xs (before ys o) ≡ before (xs ++ ys) o
-before-before xs ys o = rw append-assoc
-
 then-at : (r : Read) (k : ℕ → ℕ → Read) (p : ℕ) → r .stop ≡ at p → then r k ≡ before (r .entries) (k (length (r .entries)) p)
 unfolding follow
 then-at r k p e = rw e

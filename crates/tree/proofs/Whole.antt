@@ -1,17 +1,14 @@
 -- A tree that is read into a cleared table, and what the answer tells a caller. Assumes nothing.
 use Prim.Native.Nat.{ℕ, _-_, _*_, _≤_}
 use mathlib.Core.Path.{_≡_, refl, ap, _∙_, subst}
-use mathlib.Core.Bool.{Bool, true, false, cond}
 use mathlib.Core.List.{List}
 use native.Mathlib.Omega.{arith}
 use native.Mathlib.Nat.{sub-zero}
-use lib.Dec.{leb}
-use lib.ListN.{length, take, length-replicate}
+use lib.ListN.{length, length-replicate}
 use Rattle.format.proofs.Tables.{length-table, sets-over, within-whole}
 use Rattle.format.specs.Answer.{Answer, given, refused}
 use Rattle.format.specs.Bytes.{over, zeros}
-use Rattle.format.specs.Refusals as why
-use Rattle.format.specs.Trees.{Stop, at, fault, Read, read, roomIn, within, wholeTree, treeEntries, tableBytes}
+use Rattle.format.specs.Trees.{at, fault, Read, read, roomIn, within, wholeTree, tableBytes}
 use Rattle.format.specs.declared.Entry.{Entry}
 use Rattle.cursor.specs.Words.{to}
 use Rattle.cursor.specs.declared.Cursor.{Cursor}
@@ -68,20 +65,3 @@ module _ (d : List ℕ) (base n : ℕ) {t : List ℕ} (cleared : t ≡ zeros n) 
 pub parsed-entries : (a : Answer (List Entry)) (n : ℕ) → Entries n ≡ parsedOf a → (es : List Entry) × (a ≡ given es) × (n ≡ length es)
 parsed-entries (given es) n e = (es, refl, cc)
 parsed-entries (refused x) n e = absurd (let z : _≡_ {A = ℕ} 0 1 = cc in omega arith)
-
-pub parsed-refused : (a : Answer (List Entry)) (x : ℕ) → Refused x ≡ parsedOf a → a ≡ refused x
-parsed-refused (given es) x e = absurd (let z : _≡_ {A = ℕ} 0 1 = cc in omega arith)
-parsed-refused (refused y) x e = cc
-
-pub given-read : (d : List ℕ) (base n : ℕ) (es : List Entry) → treeInto d base n ≡ given es → (p : ℕ) × (read d base ≡ record { entries = es; stop = at p })
-unfolding within wholeTree
-given-read d base n es e = go (leb (length (read d base .entries)) (roomIn n)) e
-  where
-    told : (t : Stop) (fs : List Entry) → wholeTree t fs ≡ given es → (p : ℕ) × (t ≡ at p) × (fs ≡ es)
-    told (at p) fs e = (p, refl, cc)
-    told (fault x) fs e = absurd (let z : _≡_ {A = ℕ} 0 1 = cc in omega arith)
-
-    go : (b : Bool) → treeEntries (cond b (read d base) (record { entries = take (roomIn n) (read d base .entries); stop = fault why.table })) ≡ given es
-        → (p : ℕ) × (read d base ≡ record { entries = es; stop = at p })
-    go true e = let (p, q, r) = told (read d base .stop) (read d base .entries) e in (p, λ i. record { entries = r i; stop = q i })
-    go false e = absurd (let z : _≡_ {A = ℕ} 0 1 = cc in omega arith)

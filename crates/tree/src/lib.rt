@@ -11,15 +11,13 @@ ghost use Rattle.format.specs.declared.Entry.{Entry};
 ghost use Rattle.cursor.specs.Words.{Within, to};
 ghost use Rattle.tree.specs.Table.{Fit, Filled};
 ghost use Rattle.tree.specs.Steps.{HeadRead, LeafRead, LevelRead, Skipped, Headed, entryFor, recordsAt, valueAt, Ran, treeInto, parsedOf};
-
-pub mod clx_type;
-
 use cursor::Cursor;
 use cursor::Word;
 use cursor::clear;
 use cursor::le2;
 use cursor::put8;
 use format::Entry;
+use format::clx_type;
 use format::refusal;
 
 // Levels may stand this many deep, one in another.

@@ -7,14 +7,14 @@ use Rattle.format.specs.Bytes.{over}
 use Rattle.format.specs.Channels.{fitted}
 use Rattle.channels.specs.Ahead.{ahead}
 use Rattle.channels.proofs.Rows.{On, on-first, on-next, on-row, fitted-length}
-use Rattle.layout.specs.Layout.{rowBytes}
+use Rattle.layout.specs.Layout.{channelRowBytes}
 use Rattle.capi.proofs.Rows.{none-stored, next-stored, all-stored}
 use Rattle.capi.proofs.put_records.Statement.{statement}
 use Rattle.capi.proofs.put_records.Tie as tie
 
 abbrev Inv-loop : tie.InvT-loop
 Inv-loop file table row₀ count p₀ k₀ row p k =
-    On file table p₀ k p × (row ≡ over (rowBytes (take k (fitted count (ahead file table p₀)))) row₀) × (length row ≡ length row₀) × (k ≤ count)
+    On file table p₀ k p × (row ≡ over (channelRowBytes (take k (fitted count (ahead file table p₀)))) row₀) × (length row ≡ length row₀) × (k ≤ count)
 
 abbrev μ-loop : tie.MeasureT-loop
 μ-loop file table row₀ count p₀ k₀ row p k = count - k

@@ -91,9 +91,6 @@ summaryVal = LL.val S.the-type S′.the-laws
 abbrev walkVal : Planes → Val
 walkVal = LL.val P.the-type P′.the-laws
 
-abbrev preparedVal : Prepared → Val
-preparedVal = LL.val Q.the-type Q′.the-laws
-
 abbrev stayed : Stays (f.ended .signature .params) (f.ended .kept)
 stayed = (stay-none-slice (0 ∷ []) tt (plain (λ _. u8)) yes, (stay-none (λ _. RS) yes, (gave-slice (1 ∷ []) tt (plain (λ _. u8)), (gave-slice (2 ∷ []) tt (plain (λ _. R)), tt))))
 

@@ -4,7 +4,7 @@ use mathlib.Core.List.{List}
 use lib.IntN.{pos}
 use Rattle.format.specs.Bytes.{ascii, most64}
 use Rattle.format.specs.Values.{level}
-use Rattle.format.specs.Attributes.{rowBytes}
+use Rattle.format.specs.Attributes.{leastRow}
 use Rattle.format.specs.Grammar.Values.{Field}
 use Rattle.format.specs.Grammar.Numbers.{Unsigned, Signed}
 use Rattle.format.specs.declared.Entry.{Entry}
@@ -16,16 +16,16 @@ pub data Bits : ℕ → Type 0 where
   sixteen : Bits 16
   thirtytwo : Bits 32
 
--- not 14: sizes above 0, at most 1,024 components, row bytes enough
+-- not 14, the plane product aside: sizes above 0, at most 1,024 components, row bytes enough
 pub record Shape (a : Attributes) : Type 0 where
   pub width-some : 0 < a .width
   pub height-some : 0 < a .height
   pub components-some : 0 < a .components
   pub components-most : a .components ≤ 1024
-  pub row-most : rowBytes a ≤ most64
-  pub row-fits : rowBytes a ≤ a .stride
+  pub row-most : leastRow a ≤ most64
+  pub row-fits : leastRow a ≤ a .stride
 
--- the attributes of a tree: none of 11 to 14
+-- the attributes of a tree: none of 11 to 14, the plane product aside
 pub record AttributesOf (s : List ℕ) (es : List Entry) (a : Attributes) : Type 0 where
   pub at-level : ℕ
   pub level-there : Field s es 0 (ascii "SLxImageAttributes") (level at-level)

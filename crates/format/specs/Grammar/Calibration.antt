@@ -1,16 +1,16 @@
 -- "The grammar": the z step, and what calibration gives, as rules.
 use Prim.Native.Nat.{ℕ, _<_}
 use mathlib.Core.Path.{_≡_}
-use mathlib.Core.Bool.{true}
+use mathlib.Core.Bool.{true, false, _&&_}
 use mathlib.Core.Option.{Option, none, some}
 use mathlib.Core.List.{List, [], _∷_}
 use lib.IntN.{pos}
-use lib.Ieee.{Float, binary64, ofInt, ne, sub, div}
+use lib.Ieee.{Float, binary64, ofInt, ne, lt, sub, div}
 use Rattle.format.specs.Bytes.{ascii}
 use Rattle.format.specs.Map.{MapEntry}
 use Rattle.format.specs.Values.{level}
-use Rattle.format.specs.Numbers.{zeroFloat, oneFloat, magnitude, narrow, positive}
-use Rattle.format.specs.Calibration.{zClass, keptZ, unstated}
+use Rattle.format.specs.Numbers.{zeroFloat, oneFloat, magnitude, narrow, positive, finite}
+use Rattle.format.specs.Calibration.{leastStep, mostStep, unstated}
 use Rattle.format.specs.Grammar.Map.{Named}
 use Rattle.format.specs.Grammar.Trees.{Tree, Faulty}
 use Rattle.format.specs.Grammar.Values.{Field}
@@ -51,6 +51,15 @@ module _ (s : List ℕ) (es : List Entry) where
     below : {i : ℕ} {is ks : List ℕ} {x : Float} → NoStep i → Below s es i ks → Steps ks (some x) → Steps (i ∷ is) (some x)
     beside : {i : ℕ} {is ks : List ℕ} {z : Option Float} → NoStep i → Below s es i ks → Steps ks none → Steps is z → Steps (i ∷ is) z
 
+-- The class of the step that was found, and the z that is kept. "In f32: class 0 none or not a positive finite number, 1 used (1e-6 to 1e3), 2 smaller, 3 larger.
+-- Only class 1 keeps z."
+pub data Classed : Option Float → ℕ → Float → Type 0 where
+  no-step : Classed none 0 zeroFloat
+  no-distance : {x : Float} → (positive (narrow x) && finite (narrow x)) ≡ false → Classed (some x) 0 zeroFloat
+  smaller : {x : Float} → (positive (narrow x) && finite (narrow x)) ≡ true → lt (narrow x) leastStep ≡ true → Classed (some x) 2 zeroFloat
+  larger : {x : Float} → (positive (narrow x) && finite (narrow x)) ≡ true → lt (narrow x) leastStep ≡ false → lt mostStep (narrow x) ≡ true → Classed (some x) 3 zeroFloat
+  used : {x : Float} → (positive (narrow x) && finite (narrow x)) ≡ true → lt (narrow x) leastStep ≡ false → lt mostStep (narrow x) ≡ false → Classed (some x) 1 (narrow x)
+
 -- ---- the calibration
 
 -- "SLxCalibration, dCalibration above 0"
@@ -60,11 +69,11 @@ pub record PixelSize (s : List ℕ) (es : List Entry) (x : Float) : Type 0 where
   pub stated : Double s es at-level (ascii "dCalibration") x
   pub above-0 : positive x ≡ true
 
--- What calibration gives, with the step z in f32. "rounded to f32 nearest-even, is x and y alike (state 1)"; "A tree that ends in 8 gives state 2, the
+-- What calibration gives, where z is the step that was found. "rounded to f32 nearest-even, is x and y alike (state 1)"; "A tree that ends in 8 gives state 2, the
 -- rest zero; without such a dCalibration, and on a missing chunk or any other fault of chunk or tree, 18 excepted, nothing is stated".
 pub data Calibrated (s m : List ℕ) (es : List MapEntry) (z : Option Float) : Calibration → Type 0 where
-  sized : {r : Range} {ts : List Entry} {x : Float} → Named s m es (ascii "ImageCalibrationLV|0!") r → Tree s r ts → PixelSize s ts x
-      → Calibrated s m es z (record { state = 1; size = narrow x; class = zClass z; z = keptZ (zClass z) z })
+  sized : {r : Range} {ts : List Entry} {x : Float} {c : ℕ} {y : Float} → Named s m es (ascii "ImageCalibrationLV|0!") r → Tree s r ts → PixelSize s ts x
+      → Classed z c y → Calibrated s m es z (record { state = 1; size = narrow x; class = c; z = y })
   unsized : {r : Range} {ts : List Entry} → Named s m es (ascii "ImageCalibrationLV|0!") r → Tree s r ts → ((x : Float) → PixelSize s ts x → ⊥)
       → Calibrated s m es z (unstated 0)
   ends-packed : {r : Range} → Named s m es (ascii "ImageCalibrationLV|0!") r → Faulty s r why.packed → Calibrated s m es z (unstated 2)

@@ -11,7 +11,6 @@ use Rattle.format.specs.Map.{MapEntry}
 use Rattle.format.specs.Values.{level}
 use Rattle.format.specs.declared.Attributes.{Attributes}
 use Rattle.format.specs.Attributes.{planeBytes}
-use Rattle.format.specs.Calibration.{zFloat}
 use Rattle.format.specs.declared.Calibration.{Calibration}
 use Rattle.format.specs.Summary.{summaryOf}
 use Rattle.format.specs.declared.Entry.{Entry}
@@ -48,5 +47,5 @@ pub record Joined (s : List ℕ) (u : Summary) : Type 0 where
   pub step : Option Float
   pub step-found : Steps s experiment-tree (experiment-level ∷ []) step
   pub size : Calibration
-  pub calibrated : Calibrated s (dataIn s map-place) map-entries (zFloat step) size
+  pub calibrated : Calibrated s (dataIn s map-place) map-entries step size
   pub summary : u ≡ summaryOf map-place attributes loops size

@@ -3,17 +3,18 @@ use Prim.Native.Nat.{ℕ, suc, _≤_, _<_, max}
 use mathlib.Core.Path.{_≡_}
 use mathlib.Core.Option.{none, some}
 use mathlib.Core.Logic.{_⊎_}
-use mathlib.Core.List.{List, [], _∷_, map, reverse}
+use mathlib.Core.List.{List, [], _∷_, reverse}
 use lib.ListN.{take}
 use lib.IntN.{ℤ, pos}
 use Rattle.format.specs.Bytes.{ascii}
 use Rattle.format.specs.Values.{Value, level, list}
 use Rattle.format.specs.Numbers.{unsigned}
-use Rattle.format.specs.Loops.{mostCount, Built, axisOf}
+use Rattle.format.specs.Loops.{mostCount, Built}
 use Rattle.format.specs.Grammar.Values.{ValueOf, Field, LevelsIn, SizeOf}
 use Rattle.format.specs.Grammar.Numbers.{Unsigned, Signed}
 use Rattle.format.specs.declared.Entry.{Entry}
 use Rattle.format.specs.declared.Axis.{Axis}
+use Rattle.format.specs.declared.Axis.the-variants.{T, Z, P}
 use Rattle.format.specs.declared.Loop.{Loop}
 
 -- ---- lists of loops
@@ -129,18 +130,21 @@ pub data Walks (s : List ℕ) (es : List Entry) : List ℕ → ℕ → List Buil
   appends : {i n t c : ℕ} {is ks : List ℕ} {bs bs₁ bs₂ bs₃ : List Built} → LoopAt s es i t c → (t ≡ 6 → ⊥) → Appended t c n bs bs₁
       → Below s es i ks → Walks s es ks (suc n) bs₁ bs₂ → Walks s es is n bs₂ bs₃ → Walks s es (i ∷ is) n bs bs₃
 
-abbrev pub loopOf : Built → Loop
-loopOf b = record { axis = axisOf (b .kind); count = b .count }
+-- "Types 1 and 8 are T, 2 P, 4 Z": the axis of a type. Custom, 7, has none
+pub data OnAxis : ℕ → Axis → Type 0 where
+  time : OnAxis 1 T
+  points : OnAxis 2 P
+  focus : OnAxis 4 Z
+  time-uneven : OnAxis 8 T
 
--- none of these is custom
-pub data Supported : List Built → Type 0 where
-  nil : Supported []
-  cons : {b : Built} {bs : List Built} → (b .kind ≡ 7 → ⊥) → Supported bs → Supported (b ∷ bs)
+-- the appended loops, each on the axis of its type with its count
+pub data OnAxes : List Built → List Loop → Type 0 where
+  nil : OnAxes [] []
+  cons : {b : Built} {bs : List Built} {l : Loop} {ls : List Loop} → OnAxis (b .kind) (l .axis) → l .count ≡ b .count → OnAxes bs ls → OnAxes (b ∷ bs) (l ∷ ls)
 
 -- the loops of the experiment level i, outermost first: none of 15, 16, 17
 pub record LoopsOf (s : List ℕ) (es : List Entry) (i : ℕ) (ls : List Loop) : Type 0 where
   pub built : List Built
   pub walked : Walks s es (i ∷ []) 0 [] built
-  pub supported : Supported (reverse built)
-  pub in-order : ls ≡ map loopOf (reverse built)
+  pub on-axes : OnAxes (reverse built) ls
   pub distinct : Distinct ls

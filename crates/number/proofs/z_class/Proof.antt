@@ -1,6 +1,7 @@
 -- `z_class`: the tests in turn.
 use mathlib.Core.Path.{sym, _∙_}
 use Rattle.format.specs.Calibration.{zClass}
+use Rattle.format.proofs.Numbers.{least-bits, most-bits}
 use borrow.Author.Needs.{needs}
 use Rattle.number.proofs.z_class.Statement.{statement}
 use Rattle.number.proofs.z_class.Tie as tie
@@ -10,15 +11,15 @@ usable-requires c κs = search needs
 
 returns : tie.Need-returns
 unfolding zClass
-returns c = simp (sym (c .before .before .usable .ensures) ∙ c .before .if1 .taken, c .if2 .taken)
+returns c = simp (sym (c .before .before .usable .ensures) ∙ c .before .if1 .taken, least-bits, c .if2 .taken)
 
 returns-2 : tie.Need-returns-2
 unfolding zClass
-returns-2 c = simp (sym (c .before .before .before .usable .ensures) ∙ c .before .before .if1 .taken, c .before .if2 .left, c .if3 .taken)
+returns-2 c = simp (sym (c .before .before .before .usable .ensures) ∙ c .before .before .if1 .taken, least-bits, c .before .if2 .left, most-bits, c .if3 .taken)
 
 returns-3 : tie.Need-returns-3
 unfolding zClass
-returns-3 c = simp (sym (c .before .before .before .usable .ensures) ∙ c .before .before .if1 .taken, c .before .if2 .left, c .if3 .left)
+returns-3 c = simp (sym (c .before .before .before .usable .ensures) ∙ c .before .before .if1 .taken, least-bits, c .before .if2 .left, most-bits, c .if3 .left)
 
 returns-4 : tie.Need-returns-4
 unfolding zClass

@@ -1,7 +1,6 @@
 -- `gather_samples`: one sample of each pixel.
 use native.Mathlib.Omega.{arith}
 use borrow.Author.Needs.{needs}
-use denote.Ref.{now}
 use Rattle.plane.proofs.Samples.{sample-in, row-in, step-in, all-in}
 use Rattle.plane.proofs.gather_samples.Statement.{statement}
 use Rattle.plane.proofs.gather_samples.Tie as tie

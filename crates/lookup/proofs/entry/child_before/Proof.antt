@@ -1,5 +1,4 @@
 -- An entry that is no child of the level stands below one that comes before it, and no child comes between the two.
-use Prim.Native.Nat.{_-_}
 use native.Mathlib.Omega.{arith}
 use mathlib.Core.Path.{sym, _∙_}
 use Rattle.lookup.specs.Table.{entryIn}

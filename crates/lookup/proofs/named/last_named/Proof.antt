@@ -1,5 +1,4 @@
 -- The search goes from child to child, from the last one to the first.
-use Prim.Native.Nat.{_-_}
 use native.Mathlib.Omega.{arith}
 use mathlib.Core.Path.{sym, _∙_}
 use Rattle.lookup.specs.Table.{entryIn, found}

@@ -1,6 +1,6 @@
 -- `copy_blocks`: k parts have the block, and the others are as they were.
-use mathlib.Core.Path.{_≡_, refl, sym, ap, _∙_}
-use Prim.Native.Nat.{ℕ, _+_, _*_, _≤_, _-_}
+use mathlib.Core.Path.{_≡_, refl, sym, _∙_}
+use Prim.Native.Nat.{_+_, _*_, _≤_, _-_}
 use native.Mathlib.Omega.{arith}
 use native.Mathlib.Nat.{suc-mul, zero-mul, add-zero, add-sub-cancel-left}
 use native.Mathlib.Numerals.{add-one}

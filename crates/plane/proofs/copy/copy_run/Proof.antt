@@ -1,8 +1,8 @@
 -- `copy_run`: in each part i blocks are copied; then the rest.
-use mathlib.Core.Path.{_≡_, refl, sym, ap, _∙_}
-use Prim.Native.Nat.{ℕ, _+_, _*_, _≤_, _-_, _/_}
+use mathlib.Core.Path.{_≡_, refl, sym, _∙_}
+use Prim.Native.Nat.{_*_, _≤_, _-_, _/_}
 use native.Mathlib.Omega.{arith}
-use native.Mathlib.Nat.{suc-mul, zero-mul, add-zero}
+use native.Mathlib.Nat.{suc-mul, zero-mul}
 use native.Mathlib.Numerals.{add-one}
 use lib.ListN.{length}
 use denote.Ref.{now}
@@ -56,26 +56,26 @@ loop-again c =
 mul-done : tie.Need-mul-done Inv-loop μ-loop
 mul-done c = omega arith
 
-sub-copy-row : tie.Need-sub-copy-row Inv-loop μ-loop
-sub-copy-row c = omega arith
+sub-copy-bytes : tie.Need-sub-copy-bytes Inv-loop μ-loop
+sub-copy-bytes c = omega arith
 
-part-copy-row-start : tie.Need-part-copy-row-start Inv-loop μ-loop
-part-copy-row-start c = omega arith
+part-copy-bytes-start : tie.Need-part-copy-bytes-start Inv-loop μ-loop
+part-copy-bytes-start c = omega arith
 
-part-copy-row-end : tie.Need-part-copy-row-end Inv-loop μ-loop
-part-copy-row-end c = omega arith
+part-copy-bytes-end : tie.Need-part-copy-bytes-end Inv-loop μ-loop
+part-copy-bytes-end c = omega arith
 
-sub-copy-row-2 : tie.Need-sub-copy-row-2 Inv-loop μ-loop
-sub-copy-row-2 c = omega arith
+sub-copy-bytes-2 : tie.Need-sub-copy-bytes-2 Inv-loop μ-loop
+sub-copy-bytes-2 c = omega arith
 
-part-copy-row-start-2 : tie.Need-part-copy-row-start-2 Inv-loop μ-loop
-part-copy-row-start-2 c = omega arith
+part-copy-bytes-start-2 : tie.Need-part-copy-bytes-start-2 Inv-loop μ-loop
+part-copy-bytes-start-2 c = omega arith
 
-part-copy-row-end-2 : tie.Need-part-copy-row-end-2 Inv-loop μ-loop
-part-copy-row-end-2 c = omega arith
+part-copy-bytes-end-2 : tie.Need-part-copy-bytes-end-2 Inv-loop μ-loop
+part-copy-bytes-end-2 c = omega arith
 
-copy-row-requires : tie.Need-copy-row-requires Inv-loop μ-loop
-copy-row-requires c κs =
+copy-bytes-requires : tie.Need-copy-bytes-requires Inv-loop μ-loop
+copy-bytes-requires c κs =
     let a = c .before .before .before .before .before .before .args in
     let l = c .before .before .before .loop in
     let done = 6 * (length (now (a .dst)) / 96 * 16) in
@@ -91,7 +91,7 @@ returns c =
     let size = length (now (a .dst)) / 96 * 16 in
     let all : l .x ≡ size = omega arith in
     let alike : Alike (now (a .src)) (l .dst) size 6 size = rw all at (l .inv .3) in
-    parts-all (now (a .src)) (l .dst) size (c .before .before .copy-row .last .1 .0) 6 (6 * size) (length (l .dst)) alike refl (omega arith) (omega arith) refl (c .before .before .copy-row .ensures)
+    parts-all (now (a .src)) (l .dst) size (c .before .before .copy-bytes .last .1 .0) 6 (6 * size) (length (l .dst)) alike refl (omega arith) (omega arith) refl (c .before .before .copy-bytes .ensures)
 
 pub copy-run-spec : {M : Type 1} → statement M
 copy-run-spec =
@@ -109,12 +109,12 @@ copy-run-spec =
     loop-less
     loop-again
     mul-done
-    sub-copy-row
-    part-copy-row-start
-    part-copy-row-end
-    sub-copy-row-2
-    part-copy-row-start-2
-    part-copy-row-end-2
-    copy-row-requires
+    sub-copy-bytes
+    part-copy-bytes-start
+    part-copy-bytes-end
+    sub-copy-bytes-2
+    part-copy-bytes-start-2
+    part-copy-bytes-end-2
+    copy-bytes-requires
     same-length
     returns)

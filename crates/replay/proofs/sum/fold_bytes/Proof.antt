@@ -1,6 +1,5 @@
 -- `replay::sum::fold_bytes` stays within its bytes, and every sum on the way is below 2^32.
 use Prim.Native.Nat.{_≤_, _<_, _^_, _-_}
-use native.Mathlib.Omega.{arith}
 use lib.ListN.{length}
 use borrow.Author.Needs.{needs}
 use Rattle.replay.proofs.sum.fold_bytes.Statement.{statement}

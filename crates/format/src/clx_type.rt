@@ -1,4 +1,4 @@
-// The types of records.
+// The types of a tree's records.
 
 pub const BOOL: u64 = 1;
 

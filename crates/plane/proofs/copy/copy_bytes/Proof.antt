@@ -1,4 +1,4 @@
--- `copy_row`: the first i bytes of `dst` are those of `src`.
+-- `copy_bytes`: the first i bytes of `dst` are those of `src`.
 use mathlib.Core.Path.{_≡_, refl, sym, _∙_}
 use mathlib.Core.List.{List}
 use Prim.Native.Nat.{ℕ, _+_, _≤_, _<_, _-_}
@@ -7,8 +7,8 @@ use native.Mathlib.Numerals.{add-one}
 use lib.ListN.{length, take, getD, set, length-set}
 use lib.Seq.{take-suc, take-suc-set, take-all}
 use denote.Ref.{now}
-use Rattle.plane.proofs.copy.copy_row.Statement.{statement}
-use Rattle.plane.proofs.copy.copy_row.Tie as tie
+use Rattle.plane.proofs.copy.copy_bytes.Statement.{statement}
+use Rattle.plane.proofs.copy.copy_bytes.Tie as tie
 
 abbrev Inv-loop : tie.InvT-loop
 Inv-loop src dst₀ i₀ dst i = (i ≤ length dst) × (length dst ≡ length dst₀) × (take i dst ≡ take i src)
@@ -54,5 +54,5 @@ returns c =
     let i = c .before .loop .i in
     sym (take-all i d (omega arith)) ∙ c .before .loop .inv .2 ∙ take-all i s (omega arith)
 
-pub copy-row-spec : {M : Type 1} → statement M
-copy-row-spec = tie.close (tie.spec Inv-loop μ-loop loop-holds shared-slice-read-dst slice-write-dst add-i loop-less loop-again same-length returns)
+pub copy-bytes-spec : {M : Type 1} → statement M
+copy-bytes-spec = tie.close (tie.spec Inv-loop μ-loop loop-holds shared-slice-read-dst slice-write-dst add-i loop-less loop-again same-length returns)
