@@ -1,29 +1,18 @@
 -- The plane records are those of the child levels of one level. Assumes nothing.
-use Prim.Native.Nat.{ℕ, suc}
-use mathlib.Core.Path.{_≡_, refl, ap}
+use Prim.Native.Nat.{ℕ}
+use mathlib.Core.Path.{_≡_, refl}
 use mathlib.Core.Option.{Option, none, some}
-use mathlib.Core.List.{List, [], _∷_}
+use mathlib.Core.List.{List, [], map}
 use Rattle.format.specs.Bytes.{ascii}
-use Rattle.format.specs.Values.{Slot, level, slotsOf, slotValue, field, fieldIn, asLevel, bind}
-use Rattle.format.specs.Loops.{addLevel, levelsIn, childLevels}
-use Rattle.format.specs.Channels.{channelOf, addChannel, channelsIn, firstLevel, planesOf, planesLevel, planeRecords}
+use Rattle.format.specs.Values.{level, field, fieldIn, asLevel, bind}
+use Rattle.format.specs.Loops.{childLevels}
+use Rattle.format.specs.Channels.{channelOf, firstLevel, planesOf, planesLevel, planeRecords}
 use Rattle.format.specs.declared.Entry.{Entry}
-use Rattle.format.specs.declared.Channel.{Channel}
-use Rattle.channels.specs.Ahead.{recordsAt}
 
 module _ (s : List ℕ) (es : List Entry) where
-  channels-in : (xs : List Slot) → channelsIn s es xs ≡ recordsAt s es (levelsIn s es xs)
-  unfolding channelsIn levelsIn recordsAt addChannel addLevel
-  channels-in [] = refl
-  channels-in (x ∷ xs) = go (asLevel (some (slotValue s es x))) (channels-in xs)
-    where
-      go : (o : Option ℕ) → channelsIn s es xs ≡ recordsAt s es (levelsIn s es xs) → addChannel s es o (channelsIn s es xs) ≡ recordsAt s es (addLevel o (levelsIn s es xs))
-      go none e = e
-      go (some i) e = ap (λ (l : List Channel). channelOf s es i ∷ l) e
-
-  pub planes-at : (i : ℕ) → some i ≡ planesLevel s es → planeRecords s es ≡ recordsAt s es (childLevels s es (some (level i)))
-  unfolding planeRecords planesOf childLevels
-  planes-at i e = rw (← e) (channels-in (slotsOf s es (suc i)))
+  pub planes-at : (i : ℕ) → some i ≡ planesLevel s es → planeRecords s es ≡ map (channelOf s es) (childLevels s es (some (level i)))
+  unfolding planeRecords planesOf
+  planes-at i e = rw (← e) refl
 
   pub planes-none : none ≡ planesLevel s es → planeRecords s es ≡ []
   unfolding planeRecords planesOf

@@ -1,7 +1,7 @@
 -- Rows that are cut or padded with empty records, and the records that a walk has before it. Assumes nothing.
 use Prim.Native.Nat.{ℕ, zero, suc, _+_, _-_, _≤_, _<_}
 use mathlib.Core.Path.{_≡_, refl, sym, ap, _∙_}
-use mathlib.Core.List.{List, [], _∷_, _++_}
+use mathlib.Core.List.{List, [], _∷_, _++_, map}
 use native.Mathlib.Omega.{arith}
 use lib.ListN.{length, getD, take, replicate, length-append, length-replicate, List·getD-eq-default}
 use lib.Seq.{length-take-le, getD-take, ext-getD}
@@ -10,7 +10,7 @@ use Rattle.format.specs.declared.Channel.{Channel}
 use Rattle.lookup.specs.Table.{entryIn, entriesIn, Holds}
 use Rattle.lookup.specs.Walks.{Standing, restOf}
 use Rattle.lookup.specs.declared.Turn.{Turn}
-use Rattle.channels.specs.Ahead.{recordsAt, recordsFrom, ahead, recordOf, Stands, Follows, noPlanes}
+use Rattle.channels.specs.Ahead.{recordsFrom, ahead, recordOf, Stands, Follows, noPlanes}
 use Rattle.channels.specs.declared.planes.Planes.{Planes}
 
 -- ---- rows
@@ -96,11 +96,11 @@ module _ (s t : List ℕ) where
   -- the record of the next level, and then those of the rest
   pub one-before : (used n i : ℕ) (turn rest : Turn) (c : Channel) → Holds s t used → (n ≡ 0 → ⊥) → Standing (entryIn t) used rest → restOf s (entryIn t) used turn ≡ i ∷ restOf s (entryIn t) used rest
       → c ≡ channelOf s (entriesIn t used) i → Before (record { channel = c; rest = rest; left = n - 1; used = used }) (take n (recordsFrom s t used turn))
-  unfolding ahead recordsAt
+  unfolding ahead
   one-before used n i turn rest c h z g e q = (record { holds = h; standing = g }, λ k. go n (n - 1) (omega arith) _ _ e k)
     where
       go : (n m : ℕ) → n ≡ suc m → (l ls : List ℕ) → l ≡ i ∷ ls → (k : ℕ)
-          → getD (c ∷ take m (recordsAt s (entriesIn t used) ls)) k emptyChannel ≡ getD (take n (recordsAt s (entriesIn t used) l)) k emptyChannel
+          → getD (c ∷ take m (map (channelOf s (entriesIn t used)) ls)) k emptyChannel ≡ getD (take n (map (channelOf s (entriesIn t used)) l)) k emptyChannel
       go n m z l ls e k = rw (z, e, q) refl
 
   -- those behind the next record

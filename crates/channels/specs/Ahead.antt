@@ -1,10 +1,9 @@
 -- The plane records that a walk has still before it.
 use Prim.Native.Nat.{ℕ, suc}
 use mathlib.Core.Path.{_≡_}
-use mathlib.Core.List.{List, [], _∷_}
+use mathlib.Core.List.{List, _∷_, map}
 use lib.ListN.{getD, take}
 use Rattle.format.specs.Channels.{emptyChannel, channelOf}
-use Rattle.format.specs.declared.Entry.{Entry}
 use Rattle.format.specs.declared.Channel.{Channel}
 use Rattle.lookup.specs.Table.{entryIn, entriesIn, Holds}
 use Rattle.lookup.specs.Walks.{restOf, Standing}
@@ -12,18 +11,12 @@ use Rattle.lookup.specs.declared.Turn.{Turn}
 use Rattle.lookup.specs.declared.Turn.the-variants.{Over}
 use Rattle.channels.specs.declared.planes.Planes.{Planes}
 
--- the records of these levels
-unfoldable pub recordsAt : List ℕ → List Entry → List ℕ → List Channel
-recordsAt s es [] = []
-recordsAt s es (i ∷ is) = channelOf s es i ∷ recordsAt s es is
-
--- of those that a walk over child levels has before it; the table t has `used` entries
+-- the records of the child levels that a walk has before it; the table t has `used` entries
 abbrev pub recordsFrom : List ℕ → List ℕ → ℕ → Turn → List Channel
-recordsFrom s t used turn = recordsAt s (entriesIn t used) (restOf s (entryIn t) used turn)
+recordsFrom s t used turn = map (channelOf s (entriesIn t used)) (restOf s (entryIn t) used turn)
 
 -- the next record, and those after it
 unfoldable pub ahead : List ℕ → List ℕ → Planes → List Channel
-unfolding recordsAt
 ahead s t p = p .channel ∷ take (p .left) (recordsFrom s t (p .used) (p .rest))
 
 -- record k of them: empty where there are no more

@@ -1,13 +1,14 @@
 -- "Calibration and channels": ImageMetadataSeqLV|0!, SLxPictureMetadata, sPicturePlanes, level sPlaneNew, else sPlane.
-use Prim.Native.Nat.{ℕ, suc, _/_, _%_}
+use Prim.Native.Nat.{ℕ, _/_, _%_}
 use mathlib.Core.Bool.{cond}
 use mathlib.Core.Option.{Option, none, some}
-use mathlib.Core.List.{List, [], _∷_, _++_}
+use mathlib.Core.List.{List, [], _++_, map}
 use lib.ListN.{take, replicate}
 use lib.Dec.{eqb}
 use Rattle.format.specs.Bytes.{ascii}
-use Rattle.format.specs.Values.{Value, flag, whole, double, text, bytes, level, list, Slot, field, fieldIn, slotsOf, slotValue, asLevel, bind}
+use Rattle.format.specs.Values.{Value, flag, whole, double, text, bytes, level, list, field, fieldIn, asLevel, bind}
 use Rattle.format.specs.Numbers.{unsigned, below32}
+use Rattle.format.specs.Loops.{childLevels}
 use Rattle.format.specs.declared.Entry.{Entry}
 use Rattle.format.specs.declared.Channel.{Channel}
 
@@ -38,24 +39,14 @@ unfolding withText withColor ascii
 channelOf s es i =
     withText (fieldIn s es i (ascii "sDescription")) (withColor (below32 (bind (fieldIn s es i (ascii "uiColor")) unsigned)))
 
-unfoldable pub addChannel : List ℕ → List Entry → Option ℕ → List Channel → List Channel
-addChannel s es none r = r
-addChannel s es (some i) r = channelOf s es i ∷ r
-
--- "one record per child level"
-unfoldable pub channelsIn : List ℕ → List Entry → List Slot → List Channel
-unfolding addChannel
-channelsIn s es [] = []
-channelsIn s es (x ∷ xs) = addChannel s es (asLevel (some (slotValue s es x))) (channelsIn s es xs)
-
 unfoldable pub firstLevel : Option ℕ → Option ℕ → Option ℕ
 firstLevel none b = b
 firstLevel (some a) b = some a
 
+-- "one record per child level"
 unfoldable pub planesOf : List ℕ → List Entry → Option ℕ → List Channel
-unfolding channelsIn
 planesOf s es none = []
-planesOf s es (some i) = channelsIn s es (slotsOf s es (suc i))
+planesOf s es (some i) = map (channelOf s es) (childLevels s es (some (level i)))
 
 -- "SLxPictureMetadata, sPicturePlanes, level sPlaneNew, else sPlane": the level whose children are the planes
 unfoldable pub planesLevel : List ℕ → List Entry → Option ℕ

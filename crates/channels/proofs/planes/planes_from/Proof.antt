@@ -1,11 +1,11 @@
 -- `channels::planes::planes_from`: the next child level, if one is wanted and left.
 use mathlib.Core.Path.{_≡_, ap}
-use mathlib.Core.List.{[]}
+use mathlib.Core.List.{[], map}
 use denote.Ref.{now}
+use Rattle.format.specs.Channels.{channelOf}
 use Rattle.lookup.specs.Table.{entryIn, entriesIn}
 use Rattle.lookup.specs.Walks.{restOf, NextOf}
 use Rattle.lookup.specs.declared.Next.the-variants.{Child}
-use Rattle.channels.specs.Ahead.{recordsAt}
 use Rattle.channels.proofs.Rows.{none-wanted, none-left, one-before}
 use borrow.Author.Needs.{needs}
 use Rattle.channels.proofs.planes.planes_from.Statement.{statement}
@@ -42,12 +42,11 @@ sub-t12 : tie.Need-sub-t12
 sub-t12 c = search needs
 
 returns-2 : tie.Need-returns-2
-unfolding recordsAt
 returns-2 c =
     let d = c .before .before .before in
     let a = d .before .before .before .before .args in
     let e : restOf (now (a .file)) (entryIn (now (a .table))) (a .used) (a .turn) ≡ [] = rw (c .before .enum-told .given .1) at (d .next-child .ensures) in
-    none-left _ _ (a .most) (c .no-planes2 .ensures) (ap (recordsAt (now (a .file)) (entriesIn (now (a .table)) (a .used))) e)
+    none-left _ _ (a .most) (c .no-planes2 .ensures) (ap (map (channelOf (now (a .file)) (entriesIn (now (a .table)) (a .used)))) e)
 
 returns-3 : tie.Need-returns-3
 returns-3 c =
