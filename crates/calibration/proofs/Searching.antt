@@ -2,7 +2,7 @@
 use Prim.Native.Nat.{ℕ, suc, _-_}
 use mathlib.Core.Path.{_≡_, refl, sym, ap, _∙_}
 use mathlib.Core.Bool.{Bool, true, false}
-use mathlib.Core.Option.{Option, none, some}
+use mathlib.Core.Option.{Option, none, some, orElse}
 use mathlib.Core.List.{List, [], _∷_}
 use native.Mathlib.Omega.{arith}
 use lib.Ieee.{Float}
@@ -10,7 +10,7 @@ use Rattle.format.specs.Bytes.{ascii}
 use Rattle.format.specs.Values.{Value, fieldIn, bind}
 use Rattle.format.specs.Numbers.{signed}
 use Rattle.format.specs.Loops.{loopParams, childLevels}
-use Rattle.format.specs.Calibration.{orElse, firstOf, isFour, ownStep, stepAt, zStep}
+use Rattle.format.specs.Calibration.{firstOf, isFour, ownStep, stepAt, zStep}
 use Rattle.format.specs.declared.Entry.{Entry}
 use Rattle.experiment.proofs.Walking.{below}
 

@@ -2,13 +2,13 @@
 use Prim.Native.Nat.{ℕ, suc, _+_, _-_, _≤_, _<_}
 use mathlib.Core.Path.{_≡_, refl, sym, ap, _∙_}
 use mathlib.Core.Bool.{Bool, true, false}
-use mathlib.Core.Option.{Option, none, some}
+use mathlib.Core.Option.{Option, none, some, orElse}
 use mathlib.Core.List.{List, []}
 use native.Mathlib.Omega.{arith}
 use lib.ListN.{length, drop}
 use Rattle.format.specs.Bytes.{le, part, same}
 use Rattle.format.specs.Answer.{Answer, given, refused, andThen, numberOf}
-use Rattle.format.specs.Map.{MapEntry, throughMark, endMark, mapFrom, mapEntries, mostEntries, offsetOf, later}
+use Rattle.format.specs.Map.{MapEntry, throughMark, endMark, mapFrom, mapEntries, mostEntries, offsetOf}
 use Rattle.format.proofs.Maps.{map-end, map-full, map-cut, map-entry, lastOf, last-start, gives, last-entry}
 use Rattle.chunk.specs.Answers.{lookupOf, givesOf, laterOf, findIn}
 use Rattle.chunk.specs.Scan.{entryAt, Entry, Stands}
@@ -55,7 +55,7 @@ module _ {m name : List ℕ} {at count : ℕ} {last : Lookup} (h : Scanned m nam
   scan-broken e = sym (h .rest ∙ rw e)
 
   pub scan-end : mapFrom (mostEntries - count) m at ≡ given [] → lookupOf last ≡ findIn m name
-  unfolding lastOf later offsetOf
+  unfolding lastOf orElse offsetOf
   scan-end e = h .kept ∙ sym (h .rest ∙ rw e)
 
   module _ {n : ℕ} (e : Entry m at count n) where

@@ -1,11 +1,9 @@
 // A cursor that carries a chunk's slice and the place in it, over a function that takes a plain slice and a place.
-use chunk::data_of;
 use cursor::Cursor;
 use cursor::Word;
 ghost use mathlib.Core.Path.{_≡_};
-ghost use Prim.Native.Nat.{_+_, _≤_};
+ghost use Prim.Native.Nat.{_+_};
 ghost use lib.ListN.{length};
-ghost use Rattle.format.specs.Bytes.{part};
 ghost use Rattle.cursor.specs.Words.{to, wordAt, GoodWord};
 ghost use Rattle.chunk_cursor.specs.Places.{bytesOf, partOf, placeAfter};
 
@@ -105,12 +103,4 @@ pub fn name_units(slice: &[u8], at: usize) -> Word
     let c = ChunkCursor::new(slice, at);
     let kind = c.read_u8();
     c.after(kind).read_u8()
-}
-
-// The same of the first record of the tree that a chunk's data is: the data is handed on as that part of the file.
-pub fn first_units(file: &[u8], start: u64, len: u64) -> Word
-    requires { ⌜ start + len ≤ length (now file) ⌝ }
-    ensures { λ r. ⌜ r ≡ wordAt 1 (part (now (file .entry)) start len) (to 1 (length (part (now (file .entry)) start len))) ⌝ }
-{
-    name_units(data_of(file, start, len), 0)
 }

@@ -3,10 +3,11 @@ ghost use mathlib.Core.Path.{_≡_};
 ghost use mathlib.Core.List.{List, [], _∷_};
 ghost use Prim.Native.Nat.{_+_, _≤_, _<_, max};
 ghost use lib.ListN.{take};
-ghost use Rattle.format.specs.Loops.{Built, append, axisOf, axisNumber, hasAxis};
+ghost use Rattle.format.specs.Loops.{Built, append, axisOf, hasAxis};
 ghost use Rattle.experiment.specs.Kept.{Stands, Reached, Grown, larger};
 use format::Axis;
 use format::Loop;
+use format::axis_number;
 use format::refusal;
 
 // The type of a custom loop.
@@ -38,17 +39,6 @@ pub fn none_kept() -> Kept
         kind: 0,
         least: 0,
         verdict: 0,
-    }
-}
-
-// The number of an axis.
-fn axis_number(a: Axis) -> u64
-    ensures { λ r. ⌜ r ≡ axisNumber a ⌝ }
-{
-    match a {
-        Axis::T => 0,
-        Axis::Z => 1,
-        Axis::P => 2,
     }
 }
 

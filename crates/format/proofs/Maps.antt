@@ -2,7 +2,7 @@
 use Prim.Native.Nat.{ℕ, zero, suc, _+_, _-_, _≤_, _<_}
 use mathlib.Core.Path.{_≡_, refl, sym, ap, _∙_}
 use mathlib.Core.Bool.{Bool, true, false, cond, true≢false}
-use mathlib.Core.Option.{Option, none, some}
+use mathlib.Core.Option.{Option, none, some, orElse}
 use mathlib.Core.List.{List, [], _∷_, _++_}
 use native.Mathlib.Omega.{arith}
 use lib.Dec.{ltb, eqb}
@@ -14,7 +14,7 @@ use Rattle.format.proofs.Answers.{refused≢given, refuseIf-given, andT
 use Rattle.format.specs.Answer.{Answer, refused, given, refuseIf, andThen}
 use Rattle.format.specs.Refusals as why
 use Rattle.format.specs.Bytes.{le, part, same}
-use Rattle.format.specs.Map.{MapEntry, later as laterOf, offsetOf, through, prepend, endMark, mostEntries, throughMark, entryThen, mapStep, mapFrom, mapEntries, mapRange, mapName}
+use Rattle.format.specs.Map.{MapEntry, offsetOf, through, prepend, endMark, mostEntries, throughMark, entryThen, mapStep, mapFrom, mapEntries, mapRange, mapName}
 use Rattle.format.specs.Chunks.{chunkMark, chunkData}
 use Rattle.format.specs.declared.Range.{Range}
 use Rattle.format.specs.Grammar.Map.{Name, Entries, ended, entry, MapOf, Unlisted, Listed, last, later}
@@ -166,7 +166,7 @@ unlisted-read m name [] e = nil
 unlisted-read m name (x ∷ es) e = go (offsetOf m name es) (same (part m (x .nameAt) (x .nameLen)) name) refl (unlisted-read m name es) e
   where
     go : (r : Option ℕ) (b : Bool) → same (part m (x .nameAt) (x .nameLen)) name ≡ b → (r ≡ none → Unlisted m name es)
-        → laterOf r (cond b (some (x .offset)) none) ≡ none → Unlisted m name (x ∷ es)
+        → orElse r (cond b (some (x .offset)) none) ≡ none → Unlisted m name (x ∷ es)
     go (some o) b q f e = absurd (none≢some (sym e))
     go none true q f e = absurd (none≢some (sym e))
     go none false q f e = cons (λ p. true≢false (sym (true-same _ _ p) ∙ q)) (f refl)
@@ -183,7 +183,7 @@ listed-read m name (x ∷ es) o e =
     go (offsetOf m name es) refl (same (part m (x .nameAt) (x .nameLen)) name) refl (listed-read m name es) e
   where
     go : (r : Option ℕ) → offsetOf m name es ≡ r → (b : Bool) → same (part m (x .nameAt) (x .nameLen)) name ≡ b → ((o : ℕ) → offsetOf m name es ≡ some o → Listed m name es o)
-        → laterOf r (cond b (some (x .offset)) none) ≡ some o → Listed m name (x ∷ es) o
+        → orElse r (cond b (some (x .offset)) none) ≡ some o → Listed m name (x ∷ es) o
     go (some p) z b q f e = later (f o (z ∙ e))
     go none z true q f e = let k : x .offset ≡ o = cc in rw (← k) (last (same-true _ _ q) (unlisted-read m name es z))
     go none z false q f e = absurd (none≢some e)
@@ -236,16 +236,16 @@ module _ (m : List ℕ) (i n : ℕ) (h : throughMark (drop i m) ≡ some n) wher
 
 -- the offset of the last entry of a name among entries, or the one that came before them
 unfoldable pub lastOf : List ℕ → List ℕ → Option ℕ → Answer (List MapEntry) → Answer (Option ℕ)
-unfolding laterOf
+unfolding orElse
 lastOf m name l (refused n) = refused n
-lastOf m name l (given es) = given (laterOf (offsetOf m name es) l)
+lastOf m name l (given es) = given (orElse (offsetOf m name es) l)
 
 pub last-start : (m name : List ℕ) (a : Answer (List MapEntry)) → (andThen a λ es. given (offsetOf m name es)) ≡ lastOf m name none a
 unfolding lastOf andThen
 last-start m name (refused n) = refl
 last-start m name (given es) = ap given (by (offsetOf m name es))
   where
-    by : (o : Option ℕ) → o ≡ laterOf o none
+    by : (o : Option ℕ) → o ≡ orElse o none
     by none = refl
     by (some o) = refl
 
@@ -256,11 +256,11 @@ gives false o l = l
 
 pub last-entry : (m name : List ℕ) (e : MapEntry) (l : Option ℕ) (a : Answer (List MapEntry))
     → lastOf m name l (andThen a (prepend e)) ≡ lastOf m name (gives (same (part m (e .nameAt) (e .nameLen)) name) (e .offset) l) a
-unfolding lastOf andThen prepend offsetOf laterOf
+unfolding lastOf andThen prepend offsetOf orElse
 last-entry m name e l (refused n) = refl
 last-entry m name e l (given es) = ap given (by (offsetOf m name es) (same (part m (e .nameAt) (e .nameLen)) name))
   where
-    by : (o : Option ℕ) (b : Bool) → laterOf (laterOf o (cond b (some (e .offset)) none)) l ≡ laterOf o (gives b (e .offset) l)
+    by : (o : Option ℕ) (b : Bool) → orElse (orElse o (cond b (some (e .offset)) none)) l ≡ orElse o (gives b (e .offset) l)
     by (some o) b = refl
     by none true = refl
     by none false = refl
@@ -279,7 +279,7 @@ offset-last m name (x ∷ es) e = rw (offset-last m name es e) (by (same (part m
     first : Option ℕ
     first = cond (same (part m (x .nameAt) (x .nameLen)) name) (some (x .offset)) none
 
-    by : (b : Bool) (o : Option ℕ) → laterOf (gives b (e .offset) o) first ≡ gives b (e .offset) (laterOf o first)
+    by : (b : Bool) (o : Option ℕ) → orElse (gives b (e .offset) o) first ≡ gives b (e .offset) (orElse o first)
     by true o = refl
     by false o = refl
 

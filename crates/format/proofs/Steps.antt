@@ -2,7 +2,7 @@
 use Prim.Native.Nat.{ℕ, zero, suc}
 use mathlib.Core.Path.{_≡_, refl, sym, ap, _∙_, subst}
 use mathlib.Core.Bool.{Bool, true, false, cond, false≢true}
-use mathlib.Core.Option.{Option, none, some}
+use mathlib.Core.Option.{Option, none, some, orElse}
 use mathlib.Core.List.{List, [], _∷_}
 use lib.Dec.{ltb}
 use lib.IntN.{ℤ, pos, negsuc}
@@ -20,7 +20,7 @@ use Rattle.format.specs.Trees.{mostDepth}
 use Rattle.format.specs.Values.{level, fieldIn, bind}
 use Rattle.format.specs.Numbers.{signed, float, magnitude, zeroFloat}
 use Rattle.format.specs.Loops.{loopParams, childLevels, countField}
-use Rattle.format.specs.Calibration.{orElse, firstOf, isFour, statedStep, spanStep, ownStep, stepAt, zStep}
+use Rattle.format.specs.Calibration.{firstOf, isFour, statedStep, spanStep, ownStep, stepAt, zStep}
 use Rattle.format.specs.Grammar.Lists.{All, more}
 use Rattle.format.specs.Grammar.Values.{Field}
 use Rattle.format.specs.Grammar.Calibration.{Focus, StatedStep, StepOf, stated, spanned, Steps, nowhere, own, below, beside}

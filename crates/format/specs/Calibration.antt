@@ -1,7 +1,7 @@
 -- "Calibration and channels": the pixel size and the z step.
 use Prim.Native.Nat.{ℕ, zero, suc}
 use mathlib.Core.Bool.{Bool, true, false, cond, _&&_}
-use mathlib.Core.Option.{Option, none, some}
+use mathlib.Core.Option.{Option, none, some, orElse}
 use mathlib.Core.List.{List, [], _∷_}
 use lib.Dec.{ltb, eqb}
 use lib.IntN.{ℤ, pos, negsuc}
@@ -18,10 +18,6 @@ use Rattle.format.specs.declared.Entry.{Entry}
 use Rattle.format.specs.declared.Calibration.{Calibration}
 
 -- ---- the z step
-
-unfoldable pub orElse : Option Float → Option Float → Option Float
-orElse none b = b
-orElse (some a) b = some a
 
 unfoldable pub firstOf : (ℕ → Option Float) → List ℕ → Option Float
 unfolding orElse

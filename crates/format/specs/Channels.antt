@@ -1,7 +1,7 @@
 -- "Calibration and channels": ImageMetadataSeqLV|0!, SLxPictureMetadata, sPicturePlanes, level sPlaneNew, else sPlane.
 use Prim.Native.Nat.{ℕ, _/_, _%_}
 use mathlib.Core.Bool.{cond}
-use mathlib.Core.Option.{Option, none, some}
+use mathlib.Core.Option.{Option, none, some, orElse}
 use mathlib.Core.List.{List, [], _++_, map}
 use lib.ListN.{take, replicate}
 use lib.Dec.{eqb}
@@ -39,10 +39,6 @@ unfolding withText withColor ascii
 channelOf s es i =
     withText (fieldIn s es i (ascii "sDescription")) (withColor (below32 (bind (fieldIn s es i (ascii "uiColor")) unsigned)))
 
-unfoldable pub firstLevel : Option ℕ → Option ℕ → Option ℕ
-firstLevel none b = b
-firstLevel (some a) b = some a
-
 -- "one record per child level"
 unfoldable pub planesOf : List ℕ → List Entry → Option ℕ → List Channel
 planesOf s es none = []
@@ -50,11 +46,11 @@ planesOf s es (some i) = map (channelOf s es) (childLevels s es (some (level i))
 
 -- "SLxPictureMetadata, sPicturePlanes, level sPlaneNew, else sPlane": the level whose children are the planes
 unfoldable pub planesLevel : List ℕ → List Entry → Option ℕ
-unfolding firstLevel ascii
+unfolding orElse ascii
 planesLevel s es =
     bind (asLevel (field s es 0 (ascii "SLxPictureMetadata"))) λ i.
     bind (asLevel (fieldIn s es i (ascii "sPicturePlanes"))) λ j.
-    firstLevel (asLevel (fieldIn s es j (ascii "sPlaneNew"))) (asLevel (fieldIn s es j (ascii "sPlane")))
+    orElse (asLevel (fieldIn s es j (ascii "sPlaneNew"))) (asLevel (fieldIn s es j (ascii "sPlane")))
 
 unfoldable pub planeRecords : List ℕ → List Entry → List Channel
 unfolding planesOf

@@ -1,7 +1,7 @@
 -- "Map and chunks": the locator in the last 40 bytes, the map's entries, and the chunk that the map has under a name.
 use Prim.Native.Nat.{ℕ, zero, suc, _+_, _-_}
 use mathlib.Core.Bool.{Bool, true, false, not, cond}
-use mathlib.Core.Option.{Option, none, some}
+use mathlib.Core.Option.{Option, none, some, orElse}
 use mathlib.Core.List.{List, [], _∷_}
 use lib.ListN.{length, drop}
 use lib.Dec.{ltb, eqb}
@@ -89,15 +89,11 @@ mapEntries m = mapFrom mostEntries m 0
 
 -- ---- a name
 
-unfoldable pub later : Option ℕ → Option ℕ → Option ℕ
-later (some o) first = some o
-later none first = first
-
 -- "The last entry of a name wins; size is never used."
 unfoldable pub offsetOf : List ℕ → List ℕ → List MapEntry → Option ℕ
-unfolding later
+unfolding orElse
 offsetOf m name [] = none
-offsetOf m name (e ∷ es) = later (offsetOf m name es) (cond (same (part m (e .nameAt) (e .nameLen)) name) (some (e .offset)) none)
+offsetOf m name (e ∷ es) = orElse (offsetOf m name es) (cond (same (part m (e .nameAt) (e .nameLen)) name) (some (e .offset)) none)
 
 -- the chunk that the map m has under a name: 11, 4
 unfoldable pub namedChunk : List ℕ → List ℕ → List MapEntry → List ℕ → Answer Range

@@ -1,4 +1,6 @@
 // The types that every crate of the reader shares. What they have to hold is stated in specs/, document 01 as definitions.
+ghost use mathlib.Core.Path.{_≡_};
+ghost use Rattle.format.specs.Loops.{axisNumber};
 
 pub mod clx_type;
 pub mod refusal;
@@ -14,6 +16,17 @@ pub enum Axis {
     T,
     Z,
     P,
+}
+
+// The number of an axis.
+pub fn axis_number(a: Axis) -> u64
+    ensures { λ r. ⌜ r ≡ axisNumber a ⌝ }
+{
+    match a {
+        Axis::T => 0,
+        Axis::Z => 1,
+        Axis::P => 2,
+    }
 }
 
 // One loop of an experiment.

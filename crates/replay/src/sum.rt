@@ -1,8 +1,8 @@
 // A checksum of numbers and bytes: times 1,000,003 plus each number and 1, modulo the largest prime below 2^32.
 use cursor::wide;
-use format::Axis;
 use format::Loop;
 use format::Summary;
+use format::axis_number;
 use number::single_bits;
 ghost use Prim.Native.Nat.{_^_, _<_};
 
@@ -44,14 +44,6 @@ fn fold_single(sum: u64, x: f32) -> u64
     ensures { λ r. ⌜ r < 2 ^ 32 ⌝ }
 {
     fold_number(sum, single_bits(x) as u64)
-}
-
-fn axis_number(a: Axis) -> u64 {
-    match a {
-        Axis::T => 0,
-        Axis::Z => 1,
-        Axis::P => 2,
-    }
 }
 
 fn fold_loop(sum: u64, l: Loop) -> u64

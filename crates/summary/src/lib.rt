@@ -7,13 +7,14 @@ use format::Axis;
 use format::Loop;
 use format::Range;
 use format::Summary;
+use format::axis_number;
 ghost use mathlib.Core.Path.{_≡_};
 ghost use mathlib.Core.Bool.{cond};
 ghost use mathlib.Core.List.{_∷_};
 ghost use Prim.Native.Nat.{_+_, _*_, _/_, _%_, _≤_, _<_};
 ghost use lib.Dec.{ltb};
 ghost use lib.ListN.{length, drop};
-ghost use Rattle.format.specs.Loops.{axisNumber, sameAxis, hasAxis};
+ghost use Rattle.format.specs.Loops.{sameAxis, hasAxis};
 ghost use Rattle.format.specs.Frames.{countOf, indexOf, seqIndex, frames as framesOf, indexAt};
 ghost use Rattle.format.specs.Summary.{shapeOf, loopsOf, badLoops, badSummary};
 ghost use Rattle.format.specs.Calls.Plane.{badIndex};
@@ -50,17 +51,6 @@ fn loop_at(u: Summary, i: usize) -> Loop
     ensures { λ r. ⌜ drop i (loopsOf u) ≡ r ∷ drop (i + 1) (loopsOf u) ⌝ }
 {
     u.loops[i]
-}
-
-// The number of an axis.
-pub fn axis_number(a: Axis) -> u64
-    ensures { λ r. ⌜ r ≡ axisNumber a ⌝ }
-{
-    match a {
-        Axis::T => 0,
-        Axis::Z => 1,
-        Axis::P => 2,
-    }
 }
 
 fn runs_over(l: Loop, a: Axis) -> bool

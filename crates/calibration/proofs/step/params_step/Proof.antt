@@ -1,7 +1,8 @@
 -- `params_step`: dZStep, or else the span.
+use mathlib.Core.Option.{orElse}
 use mathlib.Core.Path.{refl}
 use Rattle.format.specs.Bytes.{ascii}
-use Rattle.format.specs.Calibration.{orElse, ownStep}
+use Rattle.format.specs.Calibration.{ownStep}
 use borrow.Author.Needs.{needs}
 use Rattle.calibration.proofs.step.params_step.Statement.{statement}
 use Rattle.calibration.proofs.step.params_step.Tie as tie
