@@ -11,7 +11,7 @@ use Rattle.format.specs.Chunks.{dataIn}
 use Rattle.format.specs.Trees.{roomIn}
 use Rattle.format.specs.Frames.{seqIndex}
 use Rattle.format.specs.Summary.{loopsOf}
-use Rattle.format.specs.Calls.Open.{opened, openCall, summaryIn}
+use Rattle.format.specs.Calls.Open.{opened, openCall, summaryOrZero}
 use Rattle.format.specs.Calls.Plane.{planeCall}
 use Rattle.format.specs.Calls.Border.{borderCall, planeAfter}
 use Rattle.format.specs.Demands.{Refuses, None}
@@ -50,11 +50,11 @@ module _ (s tab : List ℕ) (scene t c z : ℕ) (buf : List ℕ) where
 
   after-opened : number ≡ 0 → (borderCall s tab scene t c z buf .number ≡ planeCall s theirs scene t c z buf .number)
       × (borderCall s tab scene t c z buf .samples ≡ planeCall s theirs scene t c z buf .buffer)
-  unfolding borderCall openCall planeAfter numberOf summaryIn
+  unfolding borderCall openCall planeAfter numberOf summaryOrZero
   after-opened e = go (opened s (roomIn (length tab))) (opened-some s (roomIn (length tab))) e
     where
-      go : (x : Answer Summary) → Numbered NotZero x → numberOf x ≡ 0 → (planeAfter s scene t c z buf x .number ≡ planeCall s (summaryIn x) scene t c z buf .number)
-          × (planeAfter s scene t c z buf x .buffer ≡ planeCall s (summaryIn x) scene t c z buf .buffer)
+      go : (x : Answer Summary) → Numbered NotZero x → numberOf x ≡ 0 → (planeAfter s scene t c z buf x .number ≡ planeCall s (summaryOrZero x) scene t c z buf .number)
+          × (planeAfter s scene t c z buf x .buffer ≡ planeCall s (summaryOrZero x) scene t c z buf .buffer)
       go (refused n) (refusal h) e = absurd (omega arith)
       go (given u) h e = (refl, refl)
 

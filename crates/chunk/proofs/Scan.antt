@@ -6,7 +6,7 @@ use mathlib.Core.Option.{Option, none, some, orElse}
 use mathlib.Core.List.{List, []}
 use native.Mathlib.Omega.{arith}
 use lib.ListN.{length, drop}
-use Rattle.format.specs.Bytes.{le, part, same}
+use Rattle.format.specs.Bytes.{leAt, part, same}
 use Rattle.format.specs.Answer.{Answer, given, refused, andThen, numberOf}
 use Rattle.format.specs.Map.{MapEntry, throughMark, endMark, mapFrom, mapEntries, mostEntries, offsetOf}
 use Rattle.format.proofs.Maps.{map-end, map-full, map-cut, map-entry, lastOf, last-start, gives, last-entry}
@@ -59,19 +59,19 @@ module _ {m name : List ℕ} {at count : ℕ} {last : Lookup} (h : Scanned m nam
   scan-end e = h .kept ∙ sym (h .rest ∙ rw e)
 
   module _ {n : ℕ} (e : Entry m at count n) where
-    on : (b : Option ℕ) → b ≡ gives (same (part m at n) name) (le 8 m (at + n)) (h .best)
+    on : (b : Option ℕ) → b ≡ gives (same (part m at n) name) (leAt 8 m (at + n)) (h .best)
         → findIn m name ≡ lastOf m name b (mapFrom (mostEntries - (count + 1)) m (at + n + 16))
     on b q = h .rest ∙ rw (e .reads, q) (last-entry m name (entryAt m at n) (h .best) (mapFrom (mostEntries - (count + 1)) m (at + n + 16)))
 
-    pub scan-on : {r x : Lookup} → r ≡ laterOf last x → x ≡ givesOf (same (part m at n) name) (le 8 m (at + n)) → Scanned m name (at + n + 16) (count + 1) r
+    pub scan-on : {r x : Lookup} → r ≡ laterOf last x → x ≡ givesOf (same (part m at n) name) (leAt 8 m (at + n)) → Scanned m name (at + n + 16) (count + 1) r
     scan-on {r} {x} q g = by (same (part m at n) name) refl (q ∙ ap (laterOf last) g)
       where
-        next : (b : Option ℕ) → lookupOf r ≡ given b → b ≡ gives (same (part m at n) name) (le 8 m (at + n)) (h .best)
+        next : (b : Option ℕ) → lookupOf r ≡ given b → b ≡ gives (same (part m at n) name) (leAt 8 m (at + n)) (h .best)
             → Scanned m name (at + n + 16) (count + 1) r
         next b k p = record { few = omega (arith, e .free); within = e .inside; best = b; kept = k; rest = on b p }
 
-        by : (b : Bool) → same (part m at n) name ≡ b → r ≡ laterOf last (givesOf b (le 8 m (at + n))) → Scanned m name (at + n + 16) (count + 1) r
-        by true s p = next (some (le 8 m (at + n))) (rw p) (rw s)
+        by : (b : Bool) → same (part m at n) name ≡ b → r ≡ laterOf last (givesOf b (leAt 8 m (at + n))) → Scanned m name (at + n + 16) (count + 1) r
+        by true s p = next (some (leAt 8 m (at + n))) (rw p) (rw s)
         by false s p = next (h .best) (rw p (h .kept)) (rw s)
 
 -- ---- the map behind what is found

@@ -4,7 +4,7 @@ use mathlib.Core.Path.{_≡_}
 use mathlib.Core.Option.{Option, none, some}
 use mathlib.Core.List.{List, []}
 use lib.ListN.{length, getD}
-use Rattle.format.specs.Bytes.{le}
+use Rattle.format.specs.Bytes.{leAt}
 use Rattle.format.specs.Answer.{given, refused, andThen}
 use Rattle.format.specs.Refusals as why
 use Rattle.format.specs.Map.{MapEntry, mapFrom, mostEntries, prepend}
@@ -34,7 +34,7 @@ FoundIn s at Nothing = Unit
 
 -- the entry at `at` whose name has n bytes
 abbrev pub entryAt : List ℕ → ℕ → ℕ → MapEntry
-entryAt m at n = record { nameAt = at; nameLen = n; offset = le 8 m (at + n); size = le 8 m (at + n + 8) }
+entryAt m at n = record { nameAt = at; nameLen = n; offset = leAt 8 m (at + n); size = leAt 8 m (at + n + 8) }
 
 -- an entry at `at`, after k others, with room for it and its two numbers in the data
 pub record Entry (m : List ℕ) (at k n : ℕ) : Type 0 where

@@ -7,7 +7,7 @@ ghost use mathlib.Core.Path.{_≡_};
 ghost use mathlib.Core.Bool.{false};
 ghost use Prim.Native.Nat.{_+_, _≤_};
 ghost use lib.ListN.{length, drop};
-ghost use Rattle.format.specs.Bytes.{le, part, same};
+ghost use Rattle.format.specs.Bytes.{leAt, part, same};
 ghost use Rattle.format.specs.Answer.{numberOf};
 ghost use Rattle.format.specs.Map.{throughMark, mapEntries, mostEntries};
 ghost use Rattle.chunk.specs.Answers.{givesOf, laterOf, lookupOf, findIn};
@@ -108,7 +108,7 @@ pub enum Lookup {
 // What the entry at `at`, whose name has n bytes, gives for a name: its offset, where it bears it.
 fn offset_of(map: &[u8], at: usize, n: usize, name: &[u8]) -> Lookup
     requires { ⌜ at + n + 16 ≤ length (now map) ⌝ }
-    ensures { λ r. ⌜ r ≡ givesOf (same (part (now (map .entry)) at n) (now (name .entry))) (le 8 (now (map .entry)) (at + n)) ⌝ }
+    ensures { λ r. ⌜ r ≡ givesOf (same (part (now (map .entry)) at n) (now (name .entry))) (leAt 8 (now (map .entry)) (at + n)) ⌝ }
 {
     if is_at(map, at, n, name) {
         return Lookup::At(le8(map, at + n));

@@ -6,7 +6,7 @@ use mathlib.Core.List.{List}
 use native.Mathlib.Omega.{arith}
 use borrow.Author.Tests.{lt-ltb, le-ltb, ltb-true, ltb-false}
 use lib.Dec.{ltb}
-use Rattle.format.specs.Bytes.{le}
+use Rattle.format.specs.Bytes.{leAt}
 use Rattle.cursor.specs.Words.{to, Within, wordAt, GoodWord}
 use Rattle.cursor.specs.declared.Cursor.{Cursor}
 use Rattle.cursor.specs.declared.Word.the-variants.{Got, Cut}
@@ -16,7 +16,7 @@ module _ (n : ℕ) (s : List ℕ) (c : Cursor) where
   unfolding wordAt
   cut h = (rw (lt-ltb _ _ h), tt)
 
-  pub got : Within c s → n ≤ c .end - c .at → {v : ℕ} → v ≡ le n s (c .at)
+  pub got : Within c s → n ≤ c .end - c .at → {v : ℕ} → v ≡ leAt n s (c .at)
       → (Got v (to (c .at + n) (c .end)) ≡ wordAt n s c) × GoodWord s c n (Got v (to (c .at + n) (c .end)))
   unfolding wordAt
   got w h e = (rw (le-ltb _ _ h, e), (record { order = omega arith; inside = omega arith }, refl, refl))
@@ -26,15 +26,15 @@ module _ (n : ℕ) (s : List ℕ) (c : Cursor) where
   unfolding wordAt
   was-cut e = go (ltb (c .end - c .at) n) refl e
     where
-      go : (b : Bool) → ltb (c .end - c .at) n ≡ b → cond b Cut (Got (le n s (c .at)) (to (c .at + n) (c .end))) ≡ Cut → c .end - c .at < n
+      go : (b : Bool) → ltb (c .end - c .at) n ≡ b → cond b Cut (Got (leAt n s (c .at)) (to (c .at + n) (c .end))) ≡ Cut → c .end - c .at < n
       go true q e = ltb-true _ _ q
       go false q e = absurd (let z : _≡_ {A = ℕ} 0 1 = cc in omega arith)
 
-  pub was-got : {v : ℕ} {d : Cursor} → wordAt n s c ≡ Got v d → (n ≤ c .end - c .at) × (v ≡ le n s (c .at)) × (d ≡ to (c .at + n) (c .end))
+  pub was-got : {v : ℕ} {d : Cursor} → wordAt n s c ≡ Got v d → (n ≤ c .end - c .at) × (v ≡ leAt n s (c .at)) × (d ≡ to (c .at + n) (c .end))
   unfolding wordAt
   was-got {v} {d} e = go (ltb (c .end - c .at) n) refl e
     where
-      go : (b : Bool) → ltb (c .end - c .at) n ≡ b → cond b Cut (Got (le n s (c .at)) (to (c .at + n) (c .end))) ≡ Got v d
-          → (n ≤ c .end - c .at) × (v ≡ le n s (c .at)) × (d ≡ to (c .at + n) (c .end))
+      go : (b : Bool) → ltb (c .end - c .at) n ≡ b → cond b Cut (Got (leAt n s (c .at)) (to (c .at + n) (c .end))) ≡ Got v d
+          → (n ≤ c .end - c .at) × (v ≡ leAt n s (c .at)) × (d ≡ to (c .at + n) (c .end))
       go true q e = absurd (let z : _≡_ {A = ℕ} 0 1 = cc in omega arith)
       go false q e = (ltb-false _ _ q, cc, cc)

@@ -5,7 +5,7 @@ use mathlib.Core.Bool.{cond}
 use mathlib.Core.List.{List}
 use lib.ListN.{length}
 use lib.Dec.{ltb}
-use Rattle.format.specs.Bytes.{le}
+use Rattle.format.specs.Bytes.{leAt}
 use Rattle.cursor.specs.declared.Cursor.{Cursor}
 use Rattle.cursor.specs.declared.Word.{Word}
 use Rattle.cursor.specs.declared.Word.the-variants.{Got, Cut}
@@ -21,7 +21,7 @@ pub record Within (c : Cursor) (s : List ℕ) : Type 0 where
 
 -- the number in the n bytes at a cursor and the cursor after them, or Cut where fewer are left
 unfoldable pub wordAt : ℕ → List ℕ → Cursor → Word
-wordAt n s c = cond (ltb (c .end - c .at) n) Cut (Got (le n s (c .at)) (to (c .at + n) (c .end)))
+wordAt n s c = cond (ltb (c .end - c .at) n) Cut (Got (leAt n s (c .at)) (to (c .at + n) (c .end)))
 
 -- the cursor that is handed back after n bytes lies in the slice again
 abbrev pub GoodWord : List ℕ → Cursor → ℕ → Word → Type 0

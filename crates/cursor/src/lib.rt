@@ -3,7 +3,7 @@ ghost use mathlib.Core.Path.{_≡_};
 ghost use Prim.Native.Nat.{_+_, _^_, _≤_, _<_};
 ghost use lib.ListN.{length};
 ghost use lib.Seq.{sets};
-ghost use Rattle.format.specs.Bytes.{le, leBytes, zeros};
+ghost use Rattle.format.specs.Bytes.{leAt, leBytes, zeros};
 ghost use Rattle.cursor.specs.Words.{Within, wordAt, GoodWord};
 
 // A byte as a number.
@@ -16,7 +16,7 @@ pub fn wide(x: u8) -> u64
 // The number in the two bytes at `at`.
 pub fn le2(s: &[u8], at: usize) -> u64
     requires { ⌜ at + 2 ≤ length (now s) ⌝ }
-    ensures { λ r. ⌜ (r ≡ le 2 (now (s .entry)) at) × (r < 2 ^ 16) ⌝ }
+    ensures { λ r. ⌜ (r ≡ leAt 2 (now (s .entry)) at) × (r < 2 ^ 16) ⌝ }
 {
     let low = wide(s[at]);
     let high = wide(s[at + 1]);
@@ -26,7 +26,7 @@ pub fn le2(s: &[u8], at: usize) -> u64
 // The number in the four bytes at `at`.
 pub fn le4(s: &[u8], at: usize) -> u64
     requires { ⌜ at + 4 ≤ length (now s) ⌝ }
-    ensures { λ r. ⌜ (r ≡ le 4 (now (s .entry)) at) × (r < 2 ^ 32) ⌝ }
+    ensures { λ r. ⌜ (r ≡ leAt 4 (now (s .entry)) at) × (r < 2 ^ 32) ⌝ }
 {
     le2(s, at) + 65536 * le2(s, at + 2)
 }
@@ -34,7 +34,7 @@ pub fn le4(s: &[u8], at: usize) -> u64
 // The number in the eight bytes at `at`.
 pub fn le8(s: &[u8], at: usize) -> u64
     requires { ⌜ at + 8 ≤ length (now s) ⌝ }
-    ensures { λ r. ⌜ r ≡ le 8 (now (s .entry)) at ⌝ }
+    ensures { λ r. ⌜ r ≡ leAt 8 (now (s .entry)) at ⌝ }
 {
     le4(s, at) + 4294967296 * le4(s, at + 4)
 }

@@ -9,34 +9,34 @@ use lib.ListN.{length, getD, set, take, drop, length-append, length-take, length
 use lib.Seq.{sets, sets-eq, getD-append-add, getD-set-other, getD-take, getD-drop, take-take}
 use lib.Arith.{mod-mul}
 use lib.Dec.{lit<}
-use Rattle.format.specs.Bytes.{le, leBytes, part, same, begins}
+use Rattle.format.specs.Bytes.{leAt, leBytes, part, same, begins}
 use Rattle.format.proofs.Tests.{same-true, true-same, false-same}
 
-pub le-one : (s : List ℕ) (i : ℕ) → le 1 s i ≡ getD s i 0
-unfolding le
+pub le-one : (s : List ℕ) (i : ℕ) → leAt 1 s i ≡ getD s i 0
+unfolding leAt
 le-one s i = omega arith
 
 -- the number in n + k bytes is made of the numbers in the first n and the last k
-pub le-join : (n k : ℕ) (s : List ℕ) (i : ℕ) → le (n + k) s i ≡ le n s i + 256 ^ n * le k s (i + n)
-unfolding le
+pub le-join : (n k : ℕ) (s : List ℕ) (i : ℕ) → leAt (n + k) s i ≡ leAt n s i + 256 ^ n * leAt k s (i + n)
+unfolding leAt
 le-join zero k s i = rw (zero-add, add-zero) (omega arith)
 le-join (suc n) k s i =
     let e : i + suc n ≡ suc i + n = omega arith in
     rw (suc-add n k, e, le-join n k s (suc i), pow-succ', mul-assoc) (omega arith)
 
 -- it depends on those bytes alone
-pub le-alike : (n : ℕ) (s t : List ℕ) (i : ℕ) → ((k : ℕ) → i ≤ k → k < i + n → getD s k 0 ≡ getD t k 0) → le n s i ≡ le n t i
-unfolding le
+pub le-alike : (n : ℕ) (s t : List ℕ) (i : ℕ) → ((k : ℕ) → i ≤ k → k < i + n → getD s k 0 ≡ getD t k 0) → leAt n s i ≡ leAt n t i
+unfolding leAt
 le-alike zero s t i h = refl
 le-alike (suc n) s t i h = rw (h i (omega arith) (omega arith), le-alike n s t (suc i) λ k l m. h k (omega arith) (omega arith))
 
 -- the number in the second of two lists, and in the first
-pub le-after : (n : ℕ) (xs ys : List ℕ) (i : ℕ) → le n (xs ++ ys) (length xs + i) ≡ le n ys i
-unfolding le
+pub le-after : (n : ℕ) (xs ys : List ℕ) (i : ℕ) → leAt n (xs ++ ys) (length xs + i) ≡ leAt n ys i
+unfolding leAt
 le-after zero xs ys i = refl
 le-after (suc n) xs ys i = rw (getD-append-add, ← add-suc, le-after n xs ys (suc i))
 
-pub le-before : (n : ℕ) (xs ys : List ℕ) (i : ℕ) → i + n ≤ length xs → le n (xs ++ ys) i ≡ le n xs i
+pub le-before : (n : ℕ) (xs ys : List ℕ) (i : ℕ) → i + n ≤ length xs → leAt n (xs ++ ys) i ≡ leAt n xs i
 le-before n xs ys i h = le-alike n (xs ++ ys) xs i λ k l m. List·getD-append xs ys 0 k (omega arith)
 
 -- ---- written
@@ -74,20 +74,20 @@ stored-join n k l i v e f = f ∙ rw (e, leBytes-low, leBytes-join, sets-append,
 -- ---- read back
 
 -- the n bytes of v give v, where v has no more
-pub le-leBytes : (n v : ℕ) → v < 256 ^ n → le n (leBytes n v) 0 ≡ v
-unfolding le leBytes
+pub le-leBytes : (n v : ℕ) → v < 256 ^ n → leAt n (leBytes n v) 0 ≡ v
+unfolding leAt leBytes
 le-leBytes zero v h = omega arith
 le-leBytes (suc n) v h =
     let k : v / 256 < 256 ^ n = div-lt-iff-lt-mul (lit< tt) .1 (rw pow-suc at h) in
-    let e : le n (v % 256 ∷ leBytes n (v / 256)) 1 ≡ v / 256 = le-after n (v % 256 ∷ []) (leBytes n (v / 256)) 0 ∙ le-leBytes n (v / 256) k in
+    let e : leAt n (v % 256 ∷ leBytes n (v / 256)) 1 ≡ v / 256 = le-after n (v % 256 ∷ []) (leBytes n (v / 256)) 0 ∙ le-leBytes n (v / 256) k in
     rw e (omega arith)
 
 -- where it was stored
-pub le-stored : (n : ℕ) (l : List ℕ) (i v : ℕ) → i + n ≤ length l → v < 256 ^ n → le n (sets l i (leBytes n v)) i ≡ v
+pub le-stored : (n : ℕ) (l : List ℕ) (i v : ℕ) → i + n ≤ length l → v < 256 ^ n → leAt n (sets l i (leBytes n v)) i ≡ v
 le-stored n l i v h f =
     let k = leBytes-length n v in
     let b : length (take i l) ≡ i = simp length-take (omega arith) in
-    let e : le n (take i l ++ leBytes n v) (length (take i l) + 0) ≡ v = le-after n (take i l) (leBytes n v) 0 ∙ le-leBytes n v f in
+    let e : leAt n (take i l ++ leBytes n v) (length (take i l) + 0) ≡ v = le-after n (take i l) (leBytes n v) 0 ∙ le-leBytes n v f in
     rw (sets-eq (leBytes n v) l i (rw k h), le-before n (take i l ++ leBytes n v) (drop (i + length (leBytes n v)) l) i (rw (length-append, b, k) (omega arith)))
     (rw (b, add-zero) at e)
 
@@ -98,7 +98,7 @@ getD-sets (x ∷ xs) l i k h =
     getD-sets xs (set l i x) (suc i) k (λ a b. h (omega arith) (omega arith)) ∙ getD-set-other l i k x 0 λ e. h (omega arith) (omega arith)
 
 pub le-elsewhere : (n : ℕ) (xs l : List ℕ) (i k : ℕ) → ((j : ℕ) → k ≤ j → j < k + n → i ≤ j → j < i + length xs → ⊥)
-    → le n (sets l i xs) k ≡ le n l k
+    → leAt n (sets l i xs) k ≡ leAt n l k
 le-elsewhere n xs l i k h = le-alike n (sets l i xs) l k λ j a b. getD-sets xs l i j (h j a b)
 
 -- ---- parts

@@ -10,7 +10,7 @@ use borrow.Author.Tests.{ltb-false, lt-ltb, le-ltb, eqb-true, eq-eqb, ne-eqb, no
 use Rattle.format.proofs.Tests.{same-true, true-same}
 use Rattle.format.proofs.Answers.{refuseIf-given, given-inj, not-refused, Numbered, answer, refuseIf-numbered}
 use Rattle.format.specs.Answer.{Answer, refused, given, refuseIf}
-use Rattle.format.specs.Bytes.{le, part, begins}
+use Rattle.format.specs.Bytes.{leAt, part, begins}
 use Rattle.format.specs.declared.Range.{Range}
 use Rattle.format.specs.Chunks.{chunkMark, chunkData}
 use Rattle.format.specs.Grammar.Chunks.{Begins, Chunk}
@@ -29,10 +29,10 @@ module _ (name s : List ℕ) (at : ℕ) where
   pub chunk-read : (r : Range) → chunkData name s at ≡ given r → Chunk name s at r
   unfolding chunkData
   chunk-read r e =
-      let n = le 4 s (at + 4) in
-      let l = le 8 s (at + 8) in
+      let n = leAt 4 s (at + 4) in
+      let l = leAt 8 s (at + 8) in
       let (f₁, e₁) = refuseIf-given (ltb (length s) (at + 16)) 4 _ e in
-      let (f₂, e₂) = refuseIf-given (not (eqb (le 4 s at) chunkMark)) 4 _ e₁ in
+      let (f₂, e₂) = refuseIf-given (not (eqb (leAt 4 s at) chunkMark)) 4 _ e₁ in
       let (f₃, e₃) = refuseIf-given (ltb (length s) (at + 16 + n)) 4 _ e₂ in
       let (f₄, e₄) = refuseIf-given (not (begins name (part s (at + 16) n))) 4 _ e₃ in
       let (f₅, e₅) = refuseIf-given (ltb (length s) (at + 16 + n + l)) 4 _ e₄ in
@@ -60,12 +60,12 @@ module _ (name s : List ℕ) (at : ℕ) where
   pub chunk-numbered : (P : ℕ → Type 0) → P 4 → Numbered P (chunkData name s at)
   unfolding chunkData
   chunk-numbered P h =
-      let n = le 4 s (at + 4) in
+      let n = leAt 4 s (at + 4) in
       refuseIf-numbered (ltb (length s) (at + 16)) 4 _ h
-      (refuseIf-numbered (not (eqb (le 4 s at) chunkMark)) 4 _ h
+      (refuseIf-numbered (not (eqb (leAt 4 s at) chunkMark)) 4 _ h
       (refuseIf-numbered (ltb (length s) (at + 16 + n)) 4 _ h
       (refuseIf-numbered (not (begins name (part s (at + 16) n))) 4 _ h
-      (refuseIf-numbered (ltb (length s) (at + 16 + n + le 8 s (at + 8))) 4 _ h (answer {a = record { start = at + 16 + n; len = le 8 s (at + 8) }})))))
+      (refuseIf-numbered (ltb (length s) (at + 16 + n + leAt 8 s (at + 8))) 4 _ h (answer {a = record { start = at + 16 + n; len = leAt 8 s (at + 8) }})))))
 
 -- ---- test by test
 
@@ -73,13 +73,13 @@ module _ (name s : List ℕ) (at : ℕ) where
 tests : List ℕ → List ℕ → ℕ → ℕ → ℕ → Answer Range
 tests p s at n d =
     refuseIf (ltb (length s) (at + 16)) 4
-    (refuseIf (not (eqb (le 4 s at) chunkMark)) 4
+    (refuseIf (not (eqb (leAt 4 s at) chunkMark)) 4
     (refuseIf (ltb (length s) (at + 16 + n)) 4
     (refuseIf (not (begins p (part s (at + 16) n))) 4
     (refuseIf (ltb (length s) (at + 16 + n + d)) 4 (given (record { start = at + 16 + n; len = d }))))))
 
 module _ (p s : List ℕ) (at : ℕ) where
-  tested : tests p s at (le 4 s (at + 4)) (le 8 s (at + 8)) ≡ chunkData p s at
+  tested : tests p s at (leAt 4 s (at + 4)) (leAt 8 s (at + 8)) ≡ chunkData p s at
   unfolding tests chunkData
   tested = refl
 
@@ -88,27 +88,27 @@ module _ (p s : List ℕ) (at : ℕ) where
   cut-head h = rw (lt-ltb _ _ h)
 
   module _ (h : at + 16 ≤ length s) where
-    pub wrong-mark : (le 4 s at ≡ chunkMark → ⊥) → refused 4 ≡ chunkData p s at
+    pub wrong-mark : (leAt 4 s at ≡ chunkMark → ⊥) → refused 4 ≡ chunkData p s at
     unfolding chunkData
     wrong-mark m = rw (le-ltb _ _ h, ne-eqb _ _ m)
 
-    module _ (m : le 4 s at ≡ chunkMark) {n : ℕ} (en : n ≡ le 4 s (at + 4)) where
+    module _ (m : leAt 4 s at ≡ chunkMark) {n : ℕ} (en : n ≡ leAt 4 s (at + 4)) where
       pub cut-name : length s < at + 16 + n → refused 4 ≡ chunkData p s at
       unfolding tests refuseIf
-      cut-name l = rw (le-ltb (length s) (at + 16) h, eq-eqb (le 4 s at) chunkMark m, ← en, lt-ltb (length s) (at + 16 + n) l) at tested
+      cut-name l = rw (le-ltb (length s) (at + 16) h, eq-eqb (leAt 4 s at) chunkMark m, ← en, lt-ltb (length s) (at + 16 + n) l) at tested
 
       module _ (l : at + 16 + n ≤ length s) where
         pub wrong-name : begins p (part s (at + 16) n) ≡ false → refused 4 ≡ chunkData p s at
         unfolding tests refuseIf
-        wrong-name b = rw (le-ltb (length s) (at + 16) h, eq-eqb (le 4 s at) chunkMark m, ← en, le-ltb (length s) (at + 16 + n) l, b) at tested
+        wrong-name b = rw (le-ltb (length s) (at + 16) h, eq-eqb (leAt 4 s at) chunkMark m, ← en, le-ltb (length s) (at + 16 + n) l, b) at tested
 
-        module _ (b : begins p (part s (at + 16) n) ≡ true) {d : ℕ} (ed : d ≡ le 8 s (at + 8)) where
+        module _ (b : begins p (part s (at + 16) n) ≡ true) {d : ℕ} (ed : d ≡ leAt 8 s (at + 8)) where
           pub cut-data : length s < at + 16 + n + d → refused 4 ≡ chunkData p s at
           unfolding tests refuseIf
           cut-data k =
-              rw (le-ltb (length s) (at + 16) h, eq-eqb (le 4 s at) chunkMark m, ← en, le-ltb (length s) (at + 16 + n) l, b, ← ed, lt-ltb (length s) (at + 16 + n + d) k) at tested
+              rw (le-ltb (length s) (at + 16) h, eq-eqb (leAt 4 s at) chunkMark m, ← en, le-ltb (length s) (at + 16 + n) l, b, ← ed, lt-ltb (length s) (at + 16 + n + d) k) at tested
 
           pub whole-chunk : at + 16 + n + d ≤ length s → given (record { start = at + 16 + n; len = d }) ≡ chunkData p s at
           unfolding tests refuseIf
           whole-chunk k =
-              rw (le-ltb (length s) (at + 16) h, eq-eqb (le 4 s at) chunkMark m, ← en, le-ltb (length s) (at + 16 + n) l, b, ← ed, le-ltb (length s) (at + 16 + n + d) k) at tested
+              rw (le-ltb (length s) (at + 16) h, eq-eqb (leAt 4 s at) chunkMark m, ← en, le-ltb (length s) (at + 16 + n) l, b, ← ed, le-ltb (length s) (at + 16 + n + d) k) at tested

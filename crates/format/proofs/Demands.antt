@@ -8,7 +8,7 @@ use lib.ListN.{length}
 use Rattle.format.specs.Answer.{Answer, given, refused, numberOf}
 use Rattle.format.specs.Trees.{roomIn}
 use Rattle.format.specs.Summary.{loopsOf, zeroSummary}
-use Rattle.format.specs.Calls.Open.{opened, openCall, summaryIn}
+use Rattle.format.specs.Calls.Open.{opened, openCall, summaryOrZero}
 use Rattle.format.specs.Calls.Border.{borderCall, planeAfter}
 use Rattle.format.specs.Grammar.File.{Joined}
 use Rattle.format.specs.Grammar.Table.{Enough}
@@ -32,28 +32,28 @@ use Rattle.format.proofs.Trees.{read-passed}
 
 module _ (file : List ℕ) (room : ℕ) where
   -- a number of 0 comes with a summary
-  opened-given : numberOf (opened file room) ≡ 0 → opened file room ≡ given (summaryIn (opened file room))
-  unfolding numberOf summaryIn
+  opened-given : numberOf (opened file room) ≡ 0 → opened file room ≡ given (summaryOrZero (opened file room))
+  unfolding numberOf summaryOrZero
   opened-given e = go (opened file room) (opened-some file room) e
     where
-      go : (x : Answer Summary) → Numbered NotZero x → numberOf x ≡ 0 → x ≡ given (summaryIn x)
+      go : (x : Answer Summary) → Numbered NotZero x → numberOf x ≡ 0 → x ≡ given (summaryOrZero x)
       go (refused n) (refusal h) e = absurd (omega arith)
       go (given u) h e = refl
 
-  refused-zero : Refuses (numberOf (opened file room)) → summaryIn (opened file room) ≡ zeroSummary
-  unfolding numberOf summaryIn
+  refused-zero : Refuses (numberOf (opened file room)) → summaryOrZero (opened file room) ≡ zeroSummary
+  unfolding numberOf summaryOrZero
   refused-zero f = go (opened file room) f
     where
-      go : (x : Answer Summary) → Refuses (numberOf x) → summaryIn x ≡ zeroSummary
+      go : (x : Answer Summary) → Refuses (numberOf x) → summaryOrZero x ≡ zeroSummary
       go (refused n) f = refl
       go (given u) f = absurd (f refl)
 
-  theirs : numberOf (opened file room) ≡ 0 → Joined file (summaryIn (opened file room)) × Enough file room
-  theirs e = opened-iff-joined file room (summaryIn (opened file room)) .0 (opened-given e)
+  theirs : numberOf (opened file room) ≡ 0 → Joined file (summaryOrZero (opened file room)) × Enough file room
+  theirs e = opened-iff-joined file room (summaryOrZero (opened file room)) .0 (opened-given e)
 
   exactly : (numberOf (opened file room) ≡ 0) ↔ ((u : Summary) × Joined file u × Enough file room)
   unfolding numberOf
-  exactly = (λ e. let (j, f) = theirs e in (summaryIn (opened file room), j, f), back)
+  exactly = (λ e. let (j, f) = theirs e in (summaryOrZero (opened file room), j, f), back)
     where
       back : ((u : Summary) × Joined file u × Enough file room) → numberOf (opened file room) ≡ 0
       back (u, j, f) = rw (opened-iff-joined file room u .1 (j, f)) refl
@@ -91,12 +91,12 @@ unfolding openCall
 third = record {
   plane-sample = plane-sample;
   frames-different = λ file table scene t z scene′ t′ z′ e w w′ q.
-      let g = joined-sound file (summaryIn (opened file (roomIn (length table)))) (theirs file (roomIn (length table)) e .0) in
-      seq-different (loopsOf (summaryIn (opened file (roomIn (length table))))) scene t z scene′ t′ z′ (g .loops-distinct) w w′ q;
+      let g = joined-sound file (summaryOrZero (opened file (roomIn (length table)))) (theirs file (roomIn (length table)) e .0) in
+      seq-different (loopsOf (summaryOrZero (opened file (roomIn (length table))))) scene t z scene′ t′ z′ (g .loops-distinct) w w′ q;
   names-different = λ n m name x y. frame-number-unique x y;
   number-below = λ file u scene t z g w. seq-below (loopsOf u) scene t z (g .loops-distinct) w;
   plane-accepted = plane-accepted;
-  opened-sound = λ file table e. joined-sound file (summaryIn (opened file (roomIn (length table)))) (theirs file (roomIn (length table)) e .0);
+  opened-sound = λ file table e. joined-sound file (summaryOrZero (opened file (roomIn (length table)))) (theirs file (roomIn (length table)) e .0);
   opens-exactly = λ file table. exactly file (roomIn (length table));
   joined-unique = joined-unique;
   returns-theirs = λ file table e. theirs file (roomIn (length table)) e .0;

@@ -1,7 +1,7 @@
 -- The starred lines of document 01 hold of the definitions. Assumes nothing.
 use mathlib.Core.Path.{refl}
 use lib.Ieee.{ofBits, ofInt, toSigned, div, sub}
-use Rattle.format.specs.Bytes.{le, leBytes, same}
+use Rattle.format.specs.Bytes.{leAt, leBytes, same}
 use Rattle.format.specs.Text.{units, lossy}
 use Rattle.format.specs.Answer.{refuseIf, andThen, orRefuse}
 use Rattle.format.specs.Trees.{read}
@@ -15,7 +15,7 @@ use Rattle.format.specs.Channels.{channelOf}
 use Rattle.format.specs.Edges.{attributesData, attributesOf, stackData, stepOf, planeData, planeOf, u32Record, oneTrue, Starred}
 
 pub starred : Starred
-unfolding leBytes attributesOf stepOf planeOf attributesData stackData planeData u32Record oneTrue seqIndex attributes read channelOf zStep valueAt field le units lossy badShape badBits uncompressed asLevel bind unsigned signed below32 refuseIf andThen orRefuse float slotValue slotsOf nameOf putNamed same toSigned ofBits putUnnamed elements loopParams orZero div magnitude sub ofInt childLevels
+unfolding leBytes attributesOf stepOf planeOf attributesData stackData planeData u32Record oneTrue seqIndex attributes read channelOf zStep valueAt field leAt units lossy badShape badBits uncompressed asLevel bind unsigned signed below32 refuseIf andThen orRefuse float slotValue slotsOf nameOf putNamed same toSigned ofBits putUnnamed elements loopParams orZero div magnitude sub ofInt childLevels
 starred = record {
   seq-times-first = refl;
   seq-scenes-first = refl;

@@ -13,7 +13,7 @@ use Rattle.format.proofs.Tests.{same-true, true-same, false-same}
 use Rattle.format.proofs.Answers.{refused≢given, refuseIf-given, andThen-given, given-inj, not-refused, go-on, none≢some, Numbered, answer, refusal, refuseIf-numbered, andThen-numbered}
 use Rattle.format.specs.Answer.{Answer, refused, given, refuseIf, andThen}
 use Rattle.format.specs.Refusals as why
-use Rattle.format.specs.Bytes.{le, part, same}
+use Rattle.format.specs.Bytes.{leAt, part, same}
 use Rattle.format.specs.Map.{MapEntry, offsetOf, through, prepend, endMark, mostEntries, throughMark, entryThen, mapStep, mapFrom, mapEntries, mapRange, mapName}
 use Rattle.format.specs.Chunks.{chunkMark, chunkData}
 use Rattle.format.specs.declared.Range.{Range}
@@ -230,7 +230,7 @@ module _ (m : List ℕ) (i n : ℕ) (h : throughMark (drop i m) ≡ some n) wher
 
     pub map-entry : (room : ℕ) → i + n + 16 ≤ length m
         → mapFrom (suc room) m i
-        ≡ andThen (mapFrom room m (i + n + 16)) (prepend (record { nameAt = i; nameLen = n; offset = le 8 m (i + n); size = le 8 m (i + n + 8) }))
+        ≡ andThen (mapFrom room m (i + n + 16)) (prepend (record { nameAt = i; nameLen = n; offset = leAt 8 m (i + n); size = leAt 8 m (i + n + 8) }))
     unfolding mapFrom mapStep entryThen refuseIf
     map-entry room l = rw (h, e, le-ltb (length m) (i + n + 16) l)
 
@@ -291,16 +291,16 @@ module _ (s : List ℕ) where
   range-short h = rw (lt-ltb _ _ h)
 
   module _ (h : 4 ≤ length s) where
-    pub range-old : le 4 s 0 ≡ 0x0C000000 → refused 2 ≡ mapRange s
+    pub range-old : leAt 4 s 0 ≡ 0x0C000000 → refused 2 ≡ mapRange s
     unfolding mapRange refuseIf
     range-old e = rw (le-ltb _ _ h, eq-eqb _ _ e)
 
-    module _ (o : le 4 s 0 ≡ 0x0C000000 → ⊥) where
-      pub range-other : (le 4 s 0 ≡ chunkMark → ⊥) → refused 1 ≡ mapRange s
+    module _ (o : leAt 4 s 0 ≡ 0x0C000000 → ⊥) where
+      pub range-other : (leAt 4 s 0 ≡ chunkMark → ⊥) → refused 1 ≡ mapRange s
       unfolding mapRange refuseIf
       range-other e = rw (le-ltb _ _ h, ne-eqb _ _ o, ne-eqb _ _ e)
 
-      module _ (m : le 4 s 0 ≡ chunkMark) where
+      module _ (m : leAt 4 s 0 ≡ chunkMark) where
         pub range-bare : length s < 40 → refused 3 ≡ mapRange s
         unfolding mapRange refuseIf
         range-bare l = rw (le-ltb _ _ h, ne-eqb _ _ o, eq-eqb _ _ m, lt-ltb _ _ l)
@@ -310,7 +310,7 @@ module _ (s : List ℕ) where
           unfolding mapRange refuseIf
           range-none e = rw (le-ltb _ _ h, ne-eqb _ _ o, eq-eqb _ _ m, le-ltb _ _ l, e)
 
-          pub range-chunk : same (part s (length s - 40) 32) endMark ≡ true → {a : Answer Range} {k : ℕ} → k ≡ le 8 s (length s - 8)
+          pub range-chunk : same (part s (length s - 40) 32) endMark ≡ true → {a : Answer Range} {k : ℕ} → k ≡ leAt 8 s (length s - 8)
               → a ≡ chunkData mapName s k → a ≡ mapRange s
           unfolding mapRange refuseIf
           range-chunk e q r = rw (le-ltb _ _ h, ne-eqb _ _ o, eq-eqb _ _ m, le-ltb _ _ l, e, ← q) r

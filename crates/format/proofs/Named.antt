@@ -18,7 +18,7 @@ use Rattle.format.proofs.Values.{means}
 use Rattle.format.proofs.Depths.{tree-depths}
 use Rattle.format.specs.Answer.{refused, given, andThen, orRefuse}
 use Rattle.format.specs.Refusals as why
-use Rattle.format.specs.Bytes.{le, part, same}
+use Rattle.format.specs.Bytes.{leAt, part, same}
 use Rattle.format.specs.declared.Range.{Range}
 use Rattle.format.specs.Chunks.{chunkMark, chunkData, dataIn}
 use Rattle.format.specs.Map.{MapEntry, endMark, mapName, mapEntries, offsetOf, mapRange, namedChunk}
@@ -40,15 +40,15 @@ module _ (s : List ℕ) where
   mapped-read r es e f =
       let n = length s in
       let (f₁, e₁) = refuseIf-given (ltb n 4) why.foreign _ e in
-      let (f₂, e₂) = refuseIf-given (eqb (le 4 s 0) 0x0C000000) why.legacy _ e₁ in
-      let (f₃, e₃) = refuseIf-given (not (eqb (le 4 s 0) chunkMark)) why.foreign _ e₂ in
+      let (f₂, e₂) = refuseIf-given (eqb (leAt 4 s 0) 0x0C000000) why.legacy _ e₁ in
+      let (f₃, e₃) = refuseIf-given (not (eqb (leAt 4 s 0) chunkMark)) why.foreign _ e₂ in
       let (f₄, e₄) = refuseIf-given (ltb n 40) why.tail _ e₃ in
       let (f₅, e₅) = refuseIf-given (not (same (part s (n - 40) 32) endMark)) why.tail _ e₄ in
       record {
-        first-mark = eqb-true (le 4 s 0) chunkMark (not-false _ f₃);
+        first-mark = eqb-true (leAt 4 s 0) chunkMark (not-false _ f₃);
         locator-within = ltb-false n 40 f₄;
         locator = same-true _ _ (not-false _ f₅);
-        map-chunk = chunk-read mapName s (le 8 s (n - 8)) r e₅;
+        map-chunk = chunk-read mapName s (leAt 8 s (n - 8)) r e₅;
         map-of = map-read _ es f;
       }
 
@@ -56,13 +56,13 @@ module _ (s : List ℕ) where
   unfolding mapRange
   read-range r es x =
       let h = x .locator-within in
-      let m : eqb (le 4 s 0) 0x0C000000 ≡ false = rw (x .first-mark) refl in
+      let m : eqb (leAt 4 s 0) 0x0C000000 ≡ false = rw (x .first-mark) refl in
       not-refused (ltb (length s) 4) why.foreign _ _ (le-ltb (length s) 4 (omega arith))
-      (not-refused (eqb (le 4 s 0) 0x0C000000) why.legacy _ _ m
-      (not-refused (not (eqb (le 4 s 0) chunkMark)) why.foreign _ _ (ap not (eq-eqb _ _ (x .first-mark)))
+      (not-refused (eqb (leAt 4 s 0) 0x0C000000) why.legacy _ _ m
+      (not-refused (not (eqb (leAt 4 s 0) chunkMark)) why.foreign _ _ (ap not (eq-eqb _ _ (x .first-mark)))
       (not-refused (ltb (length s) 40) why.tail _ _ (le-ltb _ _ h)
       (not-refused (not (same (part s (length s - 40) 32) endMark)) why.tail _ _ (ap not (true-same _ _ (x .locator)))
-      (read-chunk mapName s (le 8 s (length s - 8)) r (x .map-chunk))))))
+      (read-chunk mapName s (leAt 8 s (length s - 8)) r (x .map-chunk))))))
 
   pub read-mapped : (r : Range) (es : List MapEntry) → Mapped s r es → mapEntries (dataIn s r) ≡ given es
   read-mapped r es x = read-map _ es (x .map-of)

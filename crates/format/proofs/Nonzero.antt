@@ -14,7 +14,7 @@ use Rattle.format.proofs.Chunks.{chunk-numbered}
 use Rattle.format.proofs.Maps.{map-numbered}
 use Rattle.format.proofs.Trees.{fault-read, fault-number, treeFaults}
 use Rattle.format.specs.Answer.{Answer, refused, given, orRefuse}
-use Rattle.format.specs.Bytes.{le, part, ascii, same, most64}
+use Rattle.format.specs.Bytes.{leAt, part, ascii, same, most64}
 use Rattle.format.specs.Refusals as why
 use Rattle.format.specs.Chunks.{chunkMark, dataIn}
 use Rattle.format.specs.Map.{MapEntry, endMark, mapName, mapRange, mapEntries, offsetOf, namedChunk}
@@ -40,10 +40,10 @@ unfolding mapRange
 range-some s =
     let n = length s in
     refuseIf-numbered (ltb n 4) why.foreign _ (lit< tt)
-    (refuseIf-numbered (eqb (le 4 s 0) 0x0C000000) why.legacy _ (lit< tt)
-    (refuseIf-numbered (not (eqb (le 4 s 0) chunkMark)) why.foreign _ (lit< tt)
+    (refuseIf-numbered (eqb (leAt 4 s 0) 0x0C000000) why.legacy _ (lit< tt)
+    (refuseIf-numbered (not (eqb (leAt 4 s 0) chunkMark)) why.foreign _ (lit< tt)
     (refuseIf-numbered (ltb n 40) why.tail _ (lit< tt)
-    (refuseIf-numbered (not (same (part s (n - 40) 32) endMark)) why.tail _ (lit< tt) (chunk-numbered mapName s (le 8 s (n - 8)) NotZero (lit< tt))))))
+    (refuseIf-numbered (not (same (part s (n - 40) 32) endMark)) why.tail _ (lit< tt) (chunk-numbered mapName s (leAt 8 s (n - 8)) NotZero (lit< tt))))))
 
 -- ---- trees
 

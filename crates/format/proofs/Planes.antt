@@ -29,7 +29,7 @@ use Rattle.format.specs.Attributes.{sampleBytes, planeBytes}
 use Rattle.format.specs.Summary.{shapeOf, loopsOf, badSummary, mapOf}
 use Rattle.format.specs.Frames.{countOf, seqIndex, frameName, samplePlace}
 use Rattle.format.specs.Calls.Plane.{samples, badIndex, badFrame, frameOf, frameFor, planeSamples, planeBy, planeCall}
-use Rattle.format.specs.Calls.Plane.{ceiling as most}
+use Rattle.format.specs.Calls.Plane.{mostPlaneBytes as most}
 use Rattle.format.specs.Grammar.Lists.{In, here, behind}
 use Rattle.format.specs.Grammar.Attributes.{Shape}
 use Rattle.format.specs.Grammar.Map.{MapOf}

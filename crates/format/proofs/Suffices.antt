@@ -11,7 +11,7 @@ use borrow.Author.Tests.{ltb-false, leb-true}
 use Rattle.format.proofs.Tests.{and-right}
 use Rattle.format.proofs.Text.{length-units}
 use Rattle.format.proofs.Reading.{pick-by, stopIf-by}
-use Rattle.format.specs.Bytes.{le, part}
+use Rattle.format.specs.Bytes.{leAt, part}
 use Rattle.format.specs.Text.{units}
 use Rattle.format.specs.declared.Range.{Range}
 use Rattle.format.specs.Trees.{Stop, at, fault, Read, ends, entered, follow, then, fixedValue, textUnits, textValue, bytesValue, levelEnd, Children, childrenOr9, levelValue, fixedLen, value, known, ChildrenAt, entryOf, recordAt, records, childrenAt, read, treeIn, mostItems, mostDepth, packedType}
@@ -64,7 +64,7 @@ module _ (start v e : ℕ) (head : start + 2 ≤ v) (fits : v ≤ e) (entry : �
 
   bytes-fits : (d : List ℕ) → Fits start e (bytesValue d v e entry)
   unfolding bytesValue
-  bytes-fits d = go (le 8 d v) (leb (v + 8) e && leb (v + 8 + le 8 d v) e) refl
+  bytes-fits d = go (leAt 8 d v) (leb (v + 8) e && leb (v + 8 + leAt 8 d v) e) refl
     where
       go : (n : ℕ) (b : Bool) → (leb (v + 8) e && leb (v + 8 + n) e) ≡ b → Fits start e (entered (entry (v + 8) n) (cond b (at (v + 8 + n)) (fault 6)))
       go n true q = let h = leb-true (v + 8 + n) e (and-right (leb (v + 8) e) (leb (v + 8 + n) e) q) in record { room = omega arith; within = omega arith; low = omega arith }
@@ -100,13 +100,13 @@ module _ (start v e : ℕ) (head : start + 2 ≤ v) (fits : v ≤ e) (entry : �
   unfolding levelValue
   level-fits d c k =
       pick-by F (ltb e (v + 4)) _ _ (λ q. wrong 6 (omega arith)) λ q₁.
-      pick-by F (ltb mostItems (le 4 d v)) _ _ (λ q. wrong 10 (omega arith)) λ q₂.
+      pick-by F (ltb mostItems (leAt 4 d v)) _ _ (λ q. wrong 10 (omega arith)) λ q₂.
       pick-by F (ltb e (v + 12)) _ _ (λ q. wrong 6 (omega arith)) λ q₃.
-      pick-by F (ltb (start + le 8 d (v + 4)) (v + 12)) _ _ (λ q. wrong 10 (omega arith)) λ q₄.
-      pick-by F (ltb e (start + le 8 d (v + 4))) _ _ (λ q. wrong 6 (omega arith)) λ q₅.
-      let h₄ = ltb-false (start + le 8 d (v + 4)) (v + 12) q₄ in
-      let h₅ = ltb-false e (start + le 8 d (v + 4)) q₅ in
-      kids-fits c k (le 4 d v) (v + 12) (start + le 8 d (v + 4)) (omega arith) h₄ h₅
+      pick-by F (ltb (start + leAt 8 d (v + 4)) (v + 12)) _ _ (λ q. wrong 10 (omega arith)) λ q₄.
+      pick-by F (ltb e (start + leAt 8 d (v + 4))) _ _ (λ q. wrong 6 (omega arith)) λ q₅.
+      let h₄ = ltb-false (start + leAt 8 d (v + 4)) (v + 12) q₄ in
+      let h₅ = ltb-false e (start + leAt 8 d (v + 4)) q₅ in
+      kids-fits c k (leAt 4 d v) (v + 12) (start + leAt 8 d (v + 4)) (omega arith) h₄ h₅
     where
       F : Read → Type 0
       F = Fits start e

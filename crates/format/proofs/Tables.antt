@@ -8,7 +8,7 @@ use borrow.Author.Tests.{le-leb, lt-leb}
 use lib.ListN.{length, length-append}
 use lib.Seq.{sets, sets-eq}
 use Rattle.format.proofs.Bytes.{le-after, le-before, le-leBytes, leBytes-length, sets-append}
-use Rattle.format.specs.Bytes.{le, leBytes, over}
+use Rattle.format.specs.Bytes.{leAt, leBytes, over}
 use Rattle.format.specs.Refusals as why
 use Rattle.format.specs.Trees.{fault, Read, within, entryBytes, tableBytes}
 use Rattle.format.specs.Table.{entryIn, firsts, entriesIn, Fit, AllFit}
@@ -54,11 +54,11 @@ module _ (room : ℕ) (r : Read) where
 -- ---- entries that are stored in a table are those that stand in it
 
 -- the number in the first eight bytes, and past the first eight
-here : (v : ℕ) (ys : List ℕ) → v < 2 ^ 64 → le 8 (leBytes 8 v ++ ys) 0 ≡ v
+here : (v : ℕ) (ys : List ℕ) → v < 2 ^ 64 → leAt 8 (leBytes 8 v ++ ys) 0 ≡ v
 here v ys h = le-before 8 (leBytes 8 v) ys 0 (rw leBytes-length (omega arith)) ∙ le-leBytes 8 v h
 
-past : (v : ℕ) (ys : List ℕ) (i : ℕ) → le 8 (leBytes 8 v ++ ys) (8 + i) ≡ le 8 ys i
-past v ys i = ap (λ (n : ℕ). le 8 (leBytes 8 v ++ ys) (n + i)) (sym (leBytes-length 8 v)) ∙ le-after 8 (leBytes 8 v) ys i
+past : (v : ℕ) (ys : List ℕ) (i : ℕ) → leAt 8 (leBytes 8 v ++ ys) (8 + i) ≡ leAt 8 ys i
+past v ys i = ap (λ (n : ℕ). leAt 8 (leBytes 8 v ++ ys) (n + i)) (sym (leBytes-length 8 v)) ∙ le-after 8 (leBytes 8 v) ys i
 
 -- the first entry, and the later ones
 entry-first : (e : Entry) (ys : List ℕ) → Fit e → entryIn (entryBytes e ++ ys) 0 ≡ e
@@ -69,21 +69,21 @@ entry-first e ys f =
     let c = e .units in
     let d = e .value in
     let g = e .size in
-    let p0 : le 8 (entryBytes e ++ ys) 0 ≡ a = simp append-assoc (here a _ (f .kind)) in
-    let p1 : le 8 (entryBytes e ++ ys) 8 ≡ b = simp append-assoc (past a _ 0 ∙ here b _ (f .name)) in
-    let p2 : le 8 (entryBytes e ++ ys) 16 ≡ c = simp append-assoc (past a _ 8 ∙ past b _ 0 ∙ here c _ (f .units)) in
-    let p3 : le 8 (entryBytes e ++ ys) 24 ≡ d = simp append-assoc (past a _ 16 ∙ past b _ 8 ∙ past c _ 0 ∙ here d _ (f .value)) in
-    let p4 : le 8 (entryBytes e ++ ys) 32 ≡ g = simp append-assoc (past a _ 24 ∙ past b _ 16 ∙ past c _ 8 ∙ past d _ 0 ∙ here g _ (f .size)) in
-    let p5 : le 8 (entryBytes e ++ ys) 40 ≡ e .parent =
+    let p0 : leAt 8 (entryBytes e ++ ys) 0 ≡ a = simp append-assoc (here a _ (f .kind)) in
+    let p1 : leAt 8 (entryBytes e ++ ys) 8 ≡ b = simp append-assoc (past a _ 0 ∙ here b _ (f .name)) in
+    let p2 : leAt 8 (entryBytes e ++ ys) 16 ≡ c = simp append-assoc (past a _ 8 ∙ past b _ 0 ∙ here c _ (f .units)) in
+    let p3 : leAt 8 (entryBytes e ++ ys) 24 ≡ d = simp append-assoc (past a _ 16 ∙ past b _ 8 ∙ past c _ 0 ∙ here d _ (f .value)) in
+    let p4 : leAt 8 (entryBytes e ++ ys) 32 ≡ g = simp append-assoc (past a _ 24 ∙ past b _ 16 ∙ past c _ 8 ∙ past d _ 0 ∙ here g _ (f .size)) in
+    let p5 : leAt 8 (entryBytes e ++ ys) 40 ≡ e .parent =
     simp append-assoc (past a _ 32 ∙ past b _ 24 ∙ past c _ 16 ∙ past d _ 8 ∙ past g _ 0 ∙ here (e .parent) ys (f .parent)) in
     λ k. record { kind = p0 k; name = p1 k; units = p2 k; value = p3 k; size = p4 k; parent = p5 k }
 
 entry-later : (e : Entry) (ys : List ℕ) (i : ℕ) → entryIn (entryBytes e ++ ys) (suc i) ≡ entryIn ys i
 unfolding entryIn
 entry-later e ys i =
-    let q : (j : ℕ) → le 8 (entryBytes e ++ ys) (48 * suc i + j) ≡ le 8 ys (48 * i + j) =
-    λ j. ap (le 8 (entryBytes e ++ ys)) (let x : 48 * suc i + j ≡ length (entryBytes e) + (48 * i + j) = rw length-entry (omega arith) in x) ∙ le-after 8 (entryBytes e) ys (48 * i + j) in
-    let q0 : le 8 (entryBytes e ++ ys) (48 * suc i) ≡ le 8 ys (48 * i) = simp add-zero at (q 0) in
+    let q : (j : ℕ) → leAt 8 (entryBytes e ++ ys) (48 * suc i + j) ≡ leAt 8 ys (48 * i + j) =
+    λ j. ap (leAt 8 (entryBytes e ++ ys)) (let x : 48 * suc i + j ≡ length (entryBytes e) + (48 * i + j) = rw length-entry (omega arith) in x) ∙ le-after 8 (entryBytes e) ys (48 * i + j) in
+    let q0 : leAt 8 (entryBytes e ++ ys) (48 * suc i) ≡ leAt 8 ys (48 * i) = simp add-zero at (q 0) in
     λ k. record { kind = q0 k; name = q 8 k; units = q 16 k; value = q 24 k; size = q 32 k; parent = q 40 k }
 
 -- rows that agree, and a row with one in front

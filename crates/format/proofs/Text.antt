@@ -9,7 +9,7 @@ use lib.Dec.{leb}
 use lib.ListN.{length, getD, List·getD-eq-default}
 use borrow.Author.Tests.{le-leb, lt-leb, le-ltb, leb-true, ltb-true}
 use Rattle.format.proofs.Tests.{and-left, and-right}
-use Rattle.format.specs.Bytes.{le}
+use Rattle.format.specs.Bytes.{leAt}
 use Rattle.format.specs.Text.{units, highSurrogate, lowSurrogate, replaced, replacedAfter, lossy}
 
 -- ---- units
@@ -19,19 +19,19 @@ unfolding units
 length-units zero s i = refl
 length-units (suc n) s i = ap suc (length-units n s (i + 2))
 
-pub units-at : (n : ℕ) (s : List ℕ) (i k : ℕ) → k < n → getD (units n s i) k 0 ≡ le 2 s (i + 2 * k)
+pub units-at : (n : ℕ) (s : List ℕ) (i k : ℕ) → k < n → getD (units n s i) k 0 ≡ leAt 2 s (i + 2 * k)
 unfolding units
 units-at zero s i k h = absurd (omega arith)
-units-at (suc n) s i zero h = ap (le 2 s) (omega arith)
-units-at (suc n) s i (suc k) h = units-at n s (i + 2) k (omega arith) ∙ ap (le 2 s) (omega arith)
+units-at (suc n) s i zero h = ap (leAt 2 s) (omega arith)
+units-at (suc n) s i (suc k) h = units-at n s (i + 2) k (omega arith) ∙ ap (leAt 2 s) (omega arith)
 
 pub units-past : (n : ℕ) (s : List ℕ) (i k : ℕ) → n ≤ k → getD (units n s i) k 0 ≡ 0
 units-past n s i k h = List·getD-eq-default (units n s i) 0 (rw length-units h)
 
 -- the unit before unit k
-pub units-before : (n : ℕ) (s : List ℕ) (i k : ℕ) → k < n → (k ≡ 0 → ⊥) → getD (0 ∷ units n s i) k 0 ≡ le 2 s (i + 2 * k - 2)
+pub units-before : (n : ℕ) (s : List ℕ) (i k : ℕ) → k < n → (k ≡ 0 → ⊥) → getD (0 ∷ units n s i) k 0 ≡ leAt 2 s (i + 2 * k - 2)
 units-before n s i zero h z = absurd (z refl)
-units-before n s i (suc k) h z = units-at n s i k (omega arith) ∙ ap (le 2 s) (omega arith)
+units-before n s i (suc k) h z = units-at n s i k (omega arith) ∙ ap (leAt 2 s) (omega arith)
 
 -- ---- what stands for a unit, by its kind
 
@@ -91,5 +91,5 @@ length-name n s i = length-lossy (units n s i) ∙ length-units n s i
 
 -- and each is what its neighbours in the file make of it
 pub name-at : (n : ℕ) (s : List ℕ) (i k : ℕ) → k < n
-    → getD (lossy (units n s i)) k 0 ≡ replaced (getD (0 ∷ units n s i) k 0) (le 2 s (i + 2 * k)) (getD (units n s i) (k + 1) 0)
+    → getD (lossy (units n s i)) k 0 ≡ replaced (getD (0 ∷ units n s i) k 0) (leAt 2 s (i + 2 * k)) (getD (units n s i) (k + 1) 0)
 name-at n s i k h = lossy-at (units n s i) k (rw length-units h) ∙ rw (units-at n s i k h, add-one)

@@ -4,7 +4,7 @@ use mathlib.Core.Path.{_≡_, refl}
 use mathlib.Core.List.{List, [], _∷_}
 use lib.Ieee.{toSigned}
 use Rattle.format.specs.Answer.{given, refused, andThen, refuseIf, orRefuse}
-use Rattle.format.specs.Bytes.{le, same, part}
+use Rattle.format.specs.Bytes.{leAt, same, part}
 use Rattle.format.specs.Chunks.{chunkData}
 use Rattle.format.specs.Map.{mapEntries, offsetOf, endMark}
 use Rattle.format.specs.Text.{units, lossy}
@@ -69,11 +69,11 @@ tinySummary =
     }
 
 pub tiny-opened : opened tiny 7 ≡ given tinySummary
-unfolding tiny tinySummary opened andThen refuseIf le same part chunkData mapEntries orRefuse offsetOf within treeIn attributes asLevel field slotsOf nameOf units lossy bind unsigned signed below32 uncompressed badBits badShape putNamed putUnnamed elements slotValue valueAt experiment said loopParams orZero childLevels append judge hasAxis summaryOf calibration zStep zFloat unstated toSigned
+unfolding tiny tinySummary opened andThen refuseIf leAt same part chunkData mapEntries orRefuse offsetOf within treeIn attributes asLevel field slotsOf nameOf units lossy bind unsigned signed below32 uncompressed badBits badShape putNamed putUnnamed elements slotValue valueAt experiment said loopParams orZero childLevels append judge hasAxis summaryOf calibration zStep zFloat unstated toSigned
 tiny-opened = refl
 
 pub tiny-short : opened tiny 6 ≡ refused 18
-unfolding tiny opened andThen refuseIf le same part chunkData mapEntries orRefuse offsetOf within treeIn
+unfolding tiny opened andThen refuseIf leAt same part chunkData mapEntries orRefuse offsetOf within treeIn
 tiny-short = refl
 
 pub tiny-joined : Joined tiny tinySummary

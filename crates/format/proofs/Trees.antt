@@ -10,7 +10,7 @@ use lib.ListN.{length, getD, length-append}
 use borrow.Author.Tests.{ltb-true, ltb-false, lt-ltb, le-ltb, leb-true, leb-false, le-leb, lt-leb, eqb-true, eqb-false, eq-eqb, ne-eqb, not-false, not-true}
 use Rattle.format.proofs.Tests.{and-left, and-right, and-none, or-left, or-right, or-none}
 use Rattle.format.proofs.Reading.{pick-by, stopIf-by}
-use Rattle.format.specs.Bytes.{le, part}
+use Rattle.format.specs.Bytes.{leAt, part}
 use Rattle.format.specs.Text.{units}
 use Rattle.format.specs.declared.Range.{Range}
 use Rattle.format.specs.Trees.{Stop, at, fault, Read, ends, entered, pick, stopIf, follow, then, fixedValue, textUnits, textValue, bytesValue, levelEnd, Children, childrenOr9, levelValue, fixedLen, value, known, ChildrenAt, entryOf, recordAt, records, childrenAt, read, treeIn, mostItems, mostDepth, packedType}
@@ -47,32 +47,32 @@ going r false n y e f = f
 units-rest : (d : List ℕ) (v n : ℕ) → Units d v (suc n) → Units d (v + 2) n
 units-rest d v n u j h e = let q : v + 2 * suc j ≡ v + 2 + 2 * j = omega arith in u (suc j) (omega arith) (rw q e)
 
-units-first : (d : List ℕ) (v n : ℕ) → Units d v (suc n) → le 2 d v ≡ 0 → ⊥
+units-first : (d : List ℕ) (v n : ℕ) → Units d v (suc n) → leAt 2 d v ≡ 0 → ⊥
 units-first d v n u e = let q : v + 2 * 0 ≡ v = omega arith in u 0 (omega arith) (rw q e)
 
-units-more : (d : List ℕ) (v n : ℕ) → (le 2 d v ≡ 0 → ⊥) → Units d (v + 2) n → Units d v (suc n)
+units-more : (d : List ℕ) (v n : ℕ) → (leAt 2 d v ≡ 0 → ⊥) → Units d (v + 2) n → Units d v (suc n)
 units-more d v n f u zero h e = let q : v + 2 * 0 ≡ v = omega arith in f (rw q at e)
 units-more d v n f u (suc j) h e = let q : v + 2 * suc j ≡ v + 2 + 2 * j = omega arith in u j (omega arith) (rw q at e)
 
-pub text-count : (n m : ℕ) (d : List ℕ) (v : ℕ) → Units d v n → n ≤ m → (n < m → le 2 d (v + 2 * n) ≡ 0) → textUnits (units m d v) ≡ n
+pub text-count : (n m : ℕ) (d : List ℕ) (v : ℕ) → Units d v n → n ≤ m → (n < m → leAt 2 d (v + 2 * n) ≡ 0) → textUnits (units m d v) ≡ n
 unfolding textUnits units
 text-count zero zero d v u h z = refl
 text-count (suc n) zero d v u h z = absurd (omega arith)
-text-count zero (suc m) d v u h z = let e : v + 2 * 0 ≡ v = omega arith in rw (eq-eqb (le 2 d v) 0 (rw e at (z (omega arith)))) refl
+text-count zero (suc m) d v u h z = let e : v + 2 * 0 ≡ v = omega arith in rw (eq-eqb (leAt 2 d v) 0 (rw e at (z (omega arith)))) refl
 text-count (suc n) (suc m) d v u h z =
     let q : v + 2 * suc n ≡ v + 2 + 2 * n = omega arith in
     let more = text-count n m d (v + 2) (units-rest d v n u) (omega arith) (λ l. rw q at (z (omega arith))) in
-    rw (ne-eqb (le 2 d v) 0 (units-first d v n u)) (ap suc more)
+    rw (ne-eqb (leAt 2 d v) 0 (units-first d v n u)) (ap suc more)
 
 -- what `textUnits` counts
 count-text : (m : ℕ) (d : List ℕ) (v : ℕ)
-    → Units d v (textUnits (units m d v)) × (textUnits (units m d v) ≤ m) × (textUnits (units m d v) < m → le 2 d (v + 2 * textUnits (units m d v)) ≡ 0)
+    → Units d v (textUnits (units m d v)) × (textUnits (units m d v) ≤ m) × (textUnits (units m d v) < m → leAt 2 d (v + 2 * textUnits (units m d v)) ≡ 0)
 unfolding textUnits units
 count-text zero d v = ((λ j h. omega arith), omega arith, (λ h. absurd (omega arith)))
-count-text (suc m) d v = go (eqb (le 2 d v) 0) refl (textUnits (units m d (v + 2))) (count-text m d (v + 2))
+count-text (suc m) d v = go (eqb (leAt 2 d v) 0) refl (textUnits (units m d (v + 2))) (count-text m d (v + 2))
   where
-    go : (b : Bool) → eqb (le 2 d v) 0 ≡ b → (n : ℕ) → Units d (v + 2) n × (n ≤ m) × (n < m → le 2 d (v + 2 + 2 * n) ≡ 0)
-        → Units d v (cond b 0 (suc n)) × (cond b 0 (suc n) ≤ suc m) × (cond b 0 (suc n) < suc m → le 2 d (v + 2 * cond b 0 (suc n)) ≡ 0)
+    go : (b : Bool) → eqb (leAt 2 d v) 0 ≡ b → (n : ℕ) → Units d (v + 2) n × (n ≤ m) × (n < m → leAt 2 d (v + 2 + 2 * n) ≡ 0)
+        → Units d v (cond b 0 (suc n)) × (cond b 0 (suc n) ≤ suc m) × (cond b 0 (suc n) < suc m → leAt 2 d (v + 2 * cond b 0 (suc n)) ≡ 0)
     go true q n r = ((λ j h. omega arith), omega arith, (λ h. let e : v + 2 * 0 ≡ v = omega arith in rw e (eqb-true _ _ q)))
     go false q n r =
         (units-more d v n (eqb-false _ _ q) (r .0), omega (arith, r .1), (λ h. let e : v + 2 * suc n ≡ v + 2 + 2 * n = omega arith in rw e (r .2 (omega arith))))
@@ -89,9 +89,9 @@ module _ (d : List ℕ) (e v : ℕ) (entry : ℕ → ℕ → Entry) where
   unfolding textValue
   text-read n p q r = rw (q, r) refl
 
-  bytes-read : v + 8 + le 8 d v ≤ e → bytesValue d v e entry ≡ entered (entry (v + 8) (le 8 d v)) (at (v + 8 + le 8 d v))
+  bytes-read : v + 8 + leAt 8 d v ≤ e → bytesValue d v e entry ≡ entered (entry (v + 8) (leAt 8 d v)) (at (v + 8 + leAt 8 d v))
   unfolding bytesValue
-  bytes-read h = let l : v + 8 ≤ e = omega arith in rw (le-leb (v + 8) e l, le-leb (v + 8 + le 8 d v) e h) refl
+  bytes-read h = let l : v + 8 ≤ e = omega arith in rw (le-leb (v + 8) e l, le-leb (v + 8 + leAt 8 d v) e h) refl
 
   plain-read : (c : Children) (start k from len p : ℕ) → Plain d e v k from len p → value d c k start v e entry ≡ entered (entry from len) (at p)
   unfolding value
@@ -285,9 +285,9 @@ module _ (d : List ℕ) (base : ℕ) where
   number-stop c start v e entry k n f64 h = rw (lt-leb (v + 8) e h) refl
   number-stop c start v e entry k n pointer h = rw (lt-leb (v + 8) e h) refl
 
-  bytes-stop : (c : Children) (start v e : ℕ) (entry : ℕ → ℕ → Entry) → e < v + 8 + le 8 d v → value d c 9 start v e entry .stop ≡ fault why.cut
+  bytes-stop : (c : Children) (start v e : ℕ) (entry : ℕ → ℕ → Entry) → e < v + 8 + leAt 8 d v → value d c 9 start v e entry .stop ≡ fault why.cut
   unfolding value bytesValue
-  bytes-stop c start v e entry h = rw (and-none (leb (v + 8) e) (leb (v + 8 + le 8 d v) e) (lt-leb (v + 8 + le 8 d v) e h)) refl
+  bytes-stop c start v e entry h = rw (and-none (leb (v + 8) e) (leb (v + 8 + leAt 8 d v) e) (lt-leb (v + 8 + leAt 8 d v) e h)) refl
 
   module _ (c : Children) (parent i e : ℕ) where
     abbrev LevelStops : ℕ → Type 0
@@ -437,11 +437,11 @@ unfolding value levelValue bytesValue textValue fixedValue
 value-some d c k start v e entry =
     pick-by SomeEntry (eqb k 11) _ _ (λ q.
     pick-by SomeEntry (ltb e (v + 4)) _ _ (λ q. one) λ q₁.
-    pick-by SomeEntry (ltb mostItems (le 4 d v)) _ _ (λ q. one) λ q₂.
+    pick-by SomeEntry (ltb mostItems (leAt 4 d v)) _ _ (λ q. one) λ q₂.
     pick-by SomeEntry (ltb e (v + 12)) _ _ (λ q. one) λ q₃.
-    pick-by SomeEntry (ltb (start + le 8 d (v + 4)) (v + 12)) _ _ (λ q. one) λ q₄.
-    pick-by SomeEntry (ltb e (start + le 8 d (v + 4))) _ _ (λ q. one) λ q₅.
-    kids-some c (le 4 d v) (v + 12) (start + le 8 d (v + 4)) entry e) λ q₁.
+    pick-by SomeEntry (ltb (start + leAt 8 d (v + 4)) (v + 12)) _ _ (λ q. one) λ q₄.
+    pick-by SomeEntry (ltb e (start + leAt 8 d (v + 4))) _ _ (λ q. one) λ q₅.
+    kids-some c (leAt 4 d v) (v + 12) (start + leAt 8 d (v + 4)) entry e) λ q₁.
     pick-by SomeEntry (eqb k 9) _ _ (λ q. one) λ q₂.
     pick-by SomeEntry (eqb k 8) _ _ (λ q. one) λ q₃. one
   where
@@ -628,23 +628,23 @@ module _ (d : List ℕ) (base : ℕ) where
 
     bytes-formed : getD d i 0 ≡ 9 → FormedOne left parent used i e (bytesValue d (valueStart d i) e (entryOf d base parent i))
     unfolding bytesValue
-    bytes-formed k = go (leb (v + 8) e && leb (v + 8 + le 8 d v) e) refl
+    bytes-formed k = go (leb (v + 8) e && leb (v + 8 + leAt 8 d v) e) refl
       where
         v : ℕ
         v = valueStart d i
 
-        short : (p : Bool) → leb (v + 8) e ≡ p → (q : Bool) → leb (v + 8 + le 8 d v) e ≡ q → (p && q) ≡ false → e < v + 8 + le 8 d v
-        short p a false b z = leb-false (v + 8 + le 8 d v) e b
+        short : (p : Bool) → leb (v + 8) e ≡ p → (q : Bool) → leb (v + 8 + leAt 8 d v) e ≡ q → (p && q) ≡ false → e < v + 8 + leAt 8 d v
+        short p a false b z = leb-false (v + 8 + leAt 8 d v) e b
         short false a true b z = let h = leb-false (v + 8) e a in omega arith
         short true a true b z = absurd (true≢false z)
 
-        go : (b : Bool) → (leb (v + 8) e && leb (v + 8 + le 8 d v) e) ≡ b
-            → FormedOne left parent used i e (entered (entryOf d base parent i (v + 8) (le 8 d v)) (cond b (at (v + 8 + le 8 d v)) (fault 6)))
+        go : (b : Bool) → (leb (v + 8) e && leb (v + 8 + leAt 8 d v) e) ≡ b
+            → FormedOne left parent used i e (entered (entryOf d base parent i (v + 8) (leAt 8 d v)) (cond b (at (v + 8 + leAt 8 d v)) (fault 6)))
         go true q =
-            at-one left parent used i e 9 (v + 8) (le 8 d v) (v + 8 + le 8 d v) (head-of 9 k)
-            (bytes (leb-true _ _ (and-right (leb (v + 8) e) (leb (v + 8 + le 8 d v) e) q)))
+            at-one left parent used i e 9 (v + 8) (leAt 8 d v) (v + 8 + leAt 8 d v) (head-of 9 k)
+            (bytes (leb-true _ _ (and-right (leb (v + 8) e) (leb (v + 8 + leAt 8 d v) e) q)))
         go false q =
-            fault-one left parent used i e _ 6 refl (bytes-cut (head-of 9 k) (short (leb (v + 8) e) refl (leb (v + 8 + le 8 d v) e) refl q))
+            fault-one left parent used i e _ 6 refl (bytes-cut (head-of 9 k) (short (leb (v + 8) e) refl (leb (v + 8 + leAt 8 d v) e) refl q))
             (pass-this (head-of 9 k) (of-value {k = 9} (omega arith) (omega arith)))
 
     text-formed : getD d i 0 ≡ 8 → FormedOne left parent used i e (textValue d (valueStart d i) e (entryOf d base parent i))
@@ -657,7 +657,7 @@ module _ (d : List ℕ) (base : ℕ) where
         m : ℕ
         m = (e - v) / 2
 
-        go : (n : ℕ) (b : Bool) → leb (v + 2 * n + 2) e ≡ b → Units d v n × (n ≤ m) × (n < m → le 2 d (v + 2 * n) ≡ 0)
+        go : (n : ℕ) (b : Bool) → leb (v + 2 * n + 2) e ≡ b → Units d v n × (n ≤ m) × (n < m → leAt 2 d (v + 2 * n) ≡ 0)
             → FormedOne left parent used i e (entered (entryOf d base parent i v (2 * n)) (at (cond b (v + 2 * n + 2) (v + 2 * n))))
         go n true q (u, h₁, h₂) =
             let h₃ : v + 2 * n + 2 ≤ e = leb-true _ _ q in

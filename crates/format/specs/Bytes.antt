@@ -8,9 +8,9 @@ use lib.ListN.{length, getD, take, drop, replicate}
 use lib.Dec.{eqb}
 
 -- the number that the n bytes from position i on stand for, the lowest first
-unfoldable pub le : ℕ → List ℕ → ℕ → ℕ
-le zero s i = 0
-le (suc n) s i = getD s i 0 + 256 * le n s (suc i)
+unfoldable pub leAt : ℕ → List ℕ → ℕ → ℕ
+leAt zero s i = 0
+leAt (suc n) s i = getD s i 0 + 256 * leAt n s (suc i)
 
 -- n as k bytes, the lowest first
 unfoldable pub leBytes : ℕ → ℕ → List ℕ

@@ -4,7 +4,7 @@ use mathlib.Core.Bool.{not}
 use mathlib.Core.List.{List}
 use lib.ListN.{length}
 use lib.Dec.{ltb, eqb}
-use Rattle.format.specs.Bytes.{le, part, begins}
+use Rattle.format.specs.Bytes.{leAt, part, begins}
 use Rattle.format.specs.Answer.{Answer, given, refuseIf}
 use Rattle.format.specs.Refusals as why
 use Rattle.format.specs.declared.Range.{Range}
@@ -15,12 +15,12 @@ chunkMark = 0x0ABECEDA
 -- The data of the chunk whose header begins at `at`; its name has to begin with `name`, which is empty but for the map chunk. "4 in order:
 -- header leaves the file, mark, name leaves the file, map name not beginning .., data leaves the file."
 unfoldable pub chunkData : List ℕ → List ℕ → ℕ → Answer Range
-unfolding le part begins refuseIf
+unfolding leAt part begins refuseIf
 chunkData name s at =
-    let nameLen = le 4 s (at + 4) in
-    let dataLen = le 8 s (at + 8) in
+    let nameLen = leAt 4 s (at + 4) in
+    let dataLen = leAt 8 s (at + 8) in
     refuseIf (ltb (length s) (at + 16)) why.chunk
-    (refuseIf (not (eqb (le 4 s at) chunkMark)) why.chunk
+    (refuseIf (not (eqb (leAt 4 s at) chunkMark)) why.chunk
     (refuseIf (ltb (length s) (at + 16 + nameLen)) why.chunk
     (refuseIf (not (begins name (part s (at + 16) nameLen))) why.chunk
     (refuseIf (ltb (length s) (at + 16 + nameLen + dataLen)) why.chunk

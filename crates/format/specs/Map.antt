@@ -5,7 +5,7 @@ use mathlib.Core.Option.{Option, none, some, orElse}
 use mathlib.Core.List.{List, [], _∷_}
 use lib.ListN.{length, drop}
 use lib.Dec.{ltb, eqb}
-use Rattle.format.specs.Bytes.{le, part, ascii, same}
+use Rattle.format.specs.Bytes.{leAt, part, ascii, same}
 use Rattle.format.specs.Answer.{Answer, given, refused, refuseIf, andThen, orRefuse}
 use Rattle.format.specs.Refusals as why
 use Rattle.format.specs.Chunks.{chunkMark, chunkData}
@@ -28,11 +28,11 @@ unfolding endMark mapName
 mapRange s =
     let n = length s in
     refuseIf (ltb n 4) why.foreign
-    (refuseIf (eqb (le 4 s 0) 0x0C000000) why.legacy
-    (refuseIf (not (eqb (le 4 s 0) chunkMark)) why.foreign
+    (refuseIf (eqb (leAt 4 s 0) 0x0C000000) why.legacy
+    (refuseIf (not (eqb (leAt 4 s 0) chunkMark)) why.foreign
     (refuseIf (ltb n 40) why.tail
     (refuseIf (not (same (part s (n - 40) 32) endMark)) why.tail
-    (chunkData mapName s (le 8 s (n - 8)))))))
+    (chunkData mapName s (leAt 8 s (n - 8)))))))
 
 -- ---- the entries
 
@@ -69,7 +69,7 @@ entryThen more m at n true = given []
 entryThen none m at n false = refused why.map
 entryThen (some more) m at n false =
     refuseIf (ltb (length m) (at + n + 16)) why.map
-    (andThen (more (at + n + 16)) (prepend (record { nameAt = at; nameLen = n; offset = le 8 m (at + n); size = le 8 m (at + n + 8) })))
+    (andThen (more (at + n + 16)) (prepend (record { nameAt = at; nameLen = n; offset = leAt 8 m (at + n); size = leAt 8 m (at + n + 8) })))
 
 unfoldable pub mapStep : Option (ℕ → Answer (List MapEntry)) → List ℕ → ℕ → Option ℕ → Answer (List MapEntry)
 unfolding entryThen

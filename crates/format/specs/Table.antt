@@ -1,19 +1,19 @@
 -- "Trees": entries as they stand in a lent table. "Entries are six u64".
 use Prim.Native.Nat.{ℕ, zero, suc, _+_, _*_, _^_, _<_}
 use mathlib.Core.List.{List, [], _∷_, _++_}
-use Rattle.format.specs.Bytes.{le}
+use Rattle.format.specs.Bytes.{leAt}
 use Rattle.format.specs.declared.Entry.{Entry}
 
 -- entry number i, as it stands in a table
 unfoldable pub entryIn : List ℕ → ℕ → Entry
 entryIn t i =
     record {
-      kind = le 8 t (48 * i);
-      name = le 8 t (48 * i + 8);
-      units = le 8 t (48 * i + 16);
-      value = le 8 t (48 * i + 24);
-      size = le 8 t (48 * i + 32);
-      parent = le 8 t (48 * i + 40);
+      kind = leAt 8 t (48 * i);
+      name = leAt 8 t (48 * i + 8);
+      units = leAt 8 t (48 * i + 16);
+      value = leAt 8 t (48 * i + 24);
+      size = leAt 8 t (48 * i + 32);
+      parent = leAt 8 t (48 * i + 40);
     }
 
 -- the first n of a row of entries

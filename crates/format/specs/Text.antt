@@ -3,13 +3,13 @@ use Prim.Native.Nat.{ℕ, zero, suc, _+_}
 use mathlib.Core.Bool.{Bool, not, _&&_, _||_, cond}
 use mathlib.Core.List.{List, [], _∷_}
 use lib.Dec.{leb, ltb}
-use Rattle.format.specs.Bytes.{le}
+use Rattle.format.specs.Bytes.{leAt}
 
 -- the n units from position i on
 unfoldable pub units : ℕ → List ℕ → ℕ → List ℕ
-unfolding le
+unfolding leAt
 units zero s i = []
-units (suc n) s i = le 2 s i ∷ units n s (i + 2)
+units (suc n) s i = leAt 2 s i ∷ units n s (i + 2)
 
 abbrev pub highSurrogate : ℕ → Bool
 highSurrogate u = leb 0xD800 u && ltb u 0xDC00

@@ -6,7 +6,7 @@ use mathlib.Core.Option.{Option, none, some}
 use mathlib.Core.List.{List, [], _∷_, _++_}
 use lib.ListN.{length, take, getD}
 use lib.Dec.{leb, ltb, eqb}
-use Rattle.format.specs.Bytes.{le, leBytes}
+use Rattle.format.specs.Bytes.{leAt, leBytes}
 use Rattle.format.specs.Answer.{Answer, given, refused, andThen}
 use Rattle.format.specs.Refusals as why
 use Rattle.format.specs.Text.{units}
@@ -70,7 +70,7 @@ textValue d i e entry =
 -- "9 u64 size and bytes"
 unfoldable pub bytesValue : List ℕ → ℕ → ℕ → (ℕ → ℕ → Entry) → Read
 bytesValue d i e entry =
-    let size = le 8 d i in
+    let size = leAt 8 d i in
     entered (entry (i + 8) size) (cond (leb (i + 8) e && leb (i + 8 + size) e) (at (i + 8 + size)) (fault why.cut))
 
 -- "over 10,000,000 items"
@@ -102,9 +102,9 @@ childrenOr9 (some children) count from to entry e =
 unfoldable pub levelValue : List ℕ → Children → ℕ → ℕ → ℕ → (ℕ → ℕ → Entry) → Read
 unfolding levelEnd pick childrenOr9
 levelValue d children start i e entry =
-    let count = le 4 d i in
+    let count = leAt 4 d i in
     let from = i + 12 in
-    let to = start + le 8 d (i + 4) in
+    let to = start + leAt 8 d (i + 4) in
     let wrong : ℕ → Unit {0} → Read = λ n _. entered (entry i 0) (fault n) in
     pick (ltb e (i + 4)) (wrong why.cut) λ _.
     pick (ltb mostItems count) (wrong why.level) λ _.

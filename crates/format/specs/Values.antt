@@ -9,7 +9,7 @@ use lib.ListN.{getElem?}
 use lib.Dec.{ltb, eqb}
 use lib.IntN.{ℤ, pos, negsuc}
 use lib.Ieee.{Float, binary64, ofBits}
-use Rattle.format.specs.Bytes.{le, same}
+use Rattle.format.specs.Bytes.{leAt, same}
 use Rattle.format.specs.Text.{units, lossy}
 use Rattle.format.specs.Trees.{mostDepth}
 use Rattle.format.specs.declared.Entry.{Entry}
@@ -96,14 +96,14 @@ unfolding twosComplement
 leaf s e =
     let k = e .kind in
     let v = e .value in
-    cond (eqb k 1) (flag (not (eqb (le 1 s v) 0)))
-    (cond (eqb k 2) (whole (twosComplement 32 (le 4 s v)))
-    (cond (eqb k 3) (whole (pos (le 4 s v)))
-    (cond (eqb k 4) (whole (twosComplement 64 (le 8 s v)))
-    (cond (eqb k 6) (double (ofBits binary64 (le 8 s v)))
+    cond (eqb k 1) (flag (not (eqb (leAt 1 s v) 0)))
+    (cond (eqb k 2) (whole (twosComplement 32 (leAt 4 s v)))
+    (cond (eqb k 3) (whole (pos (leAt 4 s v)))
+    (cond (eqb k 4) (whole (twosComplement 64 (leAt 8 s v)))
+    (cond (eqb k 6) (double (ofBits binary64 (leAt 8 s v)))
     (cond (eqb k 8) (text v (e .size / 2))
     (cond (eqb k 9) (bytes v (e .size))
-    (whole (pos (le 8 s v)))))))))
+    (whole (pos (leAt 8 s v)))))))))
 
 unfoldable pub valueIf : Bool → (Unit {0} → Value) → Value → Value
 valueIf true l v = l tt

@@ -12,7 +12,7 @@ use lib.Ieee.{binary32, ofBits}
 use borrow.Author.Tests.{eqb-true, ltb-true, ltb-false}
 use Rattle.format.proofs.Bytes.{le-stored, le-elsewhere, leBytes-length, sets-append}
 use Rattle.format.proofs.Tests.{and-left}
-use Rattle.format.specs.Bytes.{le, leBytes}
+use Rattle.format.specs.Bytes.{leAt, leBytes}
 use Rattle.format.specs.Loops.{axisNumber}
 use Rattle.format.specs.Summary.{noLoop}
 use Rattle.format.specs.declared.Axis.{Axis}
@@ -24,7 +24,7 @@ use Rattle.layout.specs.Layout.{word, wordsOf, axisFrom, loopFrom, summa
 
 pub laid-length : (b : List ℕ) → ofLayout b ≡ true → length b ≡ 144
 unfolding ofLayout
-laid-length b e = eqb-true (length b) 144 (and-left (eqb (length b) 144) (ltb (word b 0) 3 && ltb (word b 2) 3 && ltb (word b 4) 3 && eqb (le 4 b 140) 0) e)
+laid-length b e = eqb-true (length b) 144 (and-left (eqb (length b) 144) (ltb (word b 0) 3 && ltb (word b 2) 3 && ltb (word b 4) 3 && eqb (leAt 4 b 140) 0) e)
 
 pub said-some : (b : List ℕ) → ofLayout b ≡ true → summaryFrom b ≡ some (summaryIn b)
 unfolding summaryFrom
@@ -37,7 +37,7 @@ said-none b e = rw e
 -- ---- stored
 
 -- four bytes that are stored leave what stands before them
-before : (n k p q v : ℕ) (l : List ℕ) → q + n ≤ p → le n (sets l p (leBytes k v)) q ≡ le n l q
+before : (n k p q v : ℕ) (l : List ℕ) → q + n ≤ p → leAt n (sets l p (leBytes k v)) q ≡ leAt n l q
 before n k p q v l h = le-elsewhere n (leBytes k v) l p q λ j a b c d. omega arith
 
 -- one word more
@@ -110,18 +110,18 @@ module _ (u : Summary) (b : List ℕ) (nx ny nz : ℕ) (long : length b ≡ 144)
   long₃ : length b₃ ≡ 144
   long₃ = length-sets b₂ 136 (leBytes 4 nz) ∙ long₂
 
-  x-at : le 4 stored 128 ≡ nx
+  x-at : leAt 4 stored 128 ≡ nx
   x-at =
       before 4 4 140 128 0 b₃ (lit≤ tt) ∙ before 4 4 136 128 nz b₂ (lit≤ tt) ∙ before 4 4 132 128 ny b₁ (lit≤ tt)
       ∙ le-stored 4 b 128 nx (omega (arith, long)) (omega (arith, sx))
 
-  y-at : le 4 stored 132 ≡ ny
+  y-at : leAt 4 stored 132 ≡ ny
   y-at = before 4 4 140 132 0 b₃ (lit≤ tt) ∙ before 4 4 136 132 nz b₂ (lit≤ tt) ∙ le-stored 4 b₁ 132 ny (omega (arith, long₁)) (omega (arith, sy))
 
-  z-at : le 4 stored 136 ≡ nz
+  z-at : leAt 4 stored 136 ≡ nz
   z-at = before 4 4 140 136 0 b₃ (lit≤ tt) ∙ le-stored 4 b₂ 136 nz (omega (arith, long₂)) (omega (arith, sz))
 
-  end-at : le 4 stored 140 ≡ 0
+  end-at : leAt 4 stored 140 ≡ 0
   end-at = le-stored 4 b₃ 140 0 (omega (arith, long₃)) (lit< tt)
 
   said : summaryIn stored ≡ u

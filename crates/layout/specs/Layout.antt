@@ -6,7 +6,7 @@ use mathlib.Core.List.{List, [], _∷_, _++_}
 use lib.ListN.{length, getD}
 use lib.Dec.{eqb, ltb}
 use lib.Ieee.{Float, binary32, ofBits}
-use Rattle.format.specs.Bytes.{le, leBytes}
+use Rattle.format.specs.Bytes.{leAt, leBytes}
 use Rattle.format.specs.Loops.{axisNumber}
 use Rattle.format.specs.Summary.{noLoop}
 use Rattle.format.specs.declared.Axis.{Axis}
@@ -20,11 +20,11 @@ use Rattle.layout.specs.declared.Laid.{Laid}
 
 -- word i, of eight bytes
 abbrev pub word : List ℕ → ℕ → ℕ
-word b i = le 8 b (8 * i)
+word b i = leAt 8 b (8 * i)
 
 -- the f32 whose pattern stands at a position
 abbrev pub single : List ℕ → ℕ → Float
-single b at = ofBits binary32 (le 4 b at)
+single b at = ofBits binary32 (leAt 4 b at)
 
 -- an axis: 0 is T, 1 Z, 2 P
 unfoldable pub axisFrom : ℕ → Axis
@@ -64,7 +64,7 @@ wordsOf u =
 
 -- 144 bytes, axes that are 0, 1 or 2, and four bytes of zero at the end
 unfoldable pub ofLayout : List ℕ → Bool
-ofLayout b = eqb (length b) 144 && (ltb (word b 0) 3 && ltb (word b 2) 3 && ltb (word b 4) 3 && eqb (le 4 b 140) 0)
+ofLayout b = eqb (length b) 144 && (ltb (word b 0) 3 && ltb (word b 2) 3 && ltb (word b 4) 3 && eqb (leAt 4 b 140) 0)
 
 -- the summary that the bytes say, if they are of the layout
 unfoldable pub summaryFrom : List ℕ → Option Summary

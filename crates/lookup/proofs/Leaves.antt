@@ -9,7 +9,7 @@ use lib.Ieee.{Float, binary64, ofBits}
 use lib.IntN.{pos, negsuc}
 use lib.ListN.{getD}
 use borrow.Author.Tests.{ne-eqb}
-use Rattle.format.specs.Bytes.{le}
+use Rattle.format.specs.Bytes.{leAt}
 use Rattle.format.specs.Trees.{fixedLen}
 use Rattle.format.specs.Values.{Value, flag, whole, double, text, bytes, leaf, twosComplement}
 use Rattle.format.specs.declared.Entry.{Entry}
@@ -33,26 +33,26 @@ lies-wide n e l p q r a b d = lies-fixed n e (e .kind) 8 l refl a b d (eight (e 
 
 module _ (s : List ℕ) (e : Entry) where
   pub leaf-flag : e .kind ≡ 1 → flag (not (eqb (getD s (e .value) 0) 0)) ≡ leaf s e
-  unfolding leaf le
+  unfolding leaf leAt
   leaf-flag h = rw (h, add-zero)
 
   -- the number n in two's complement, where `most` is the largest number of its bits
   abbrev pub signedOf : ℕ → ℕ → Value
   signedOf n most = whole (cond (ltb n (most / 2 + 1)) (pos n) (negsuc (most - n)))
 
-  pub leaf-i32 : (n : ℕ) (v : Value) → e .kind ≡ 2 → n ≡ le 4 s (e .value) → v ≡ signedOf n 0xFFFF_FFFF → v ≡ leaf s e
+  pub leaf-i32 : (n : ℕ) (v : Value) → e .kind ≡ 2 → n ≡ leAt 4 s (e .value) → v ≡ signedOf n 0xFFFF_FFFF → v ≡ leaf s e
   unfolding leaf twosComplement
   leaf-i32 n v h i q = q ∙ rw (h, i)
 
-  pub leaf-u32 : (n : ℕ) → e .kind ≡ 3 → n ≡ le 4 s (e .value) → whole (pos n) ≡ leaf s e
+  pub leaf-u32 : (n : ℕ) → e .kind ≡ 3 → n ≡ leAt 4 s (e .value) → whole (pos n) ≡ leaf s e
   unfolding leaf
   leaf-u32 n h i = rw (h, ← i)
 
-  pub leaf-i64 : (n : ℕ) (v : Value) → e .kind ≡ 4 → n ≡ le 8 s (e .value) → v ≡ signedOf n 0xFFFF_FFFF_FFFF_FFFF → v ≡ leaf s e
+  pub leaf-i64 : (n : ℕ) (v : Value) → e .kind ≡ 4 → n ≡ leAt 8 s (e .value) → v ≡ signedOf n 0xFFFF_FFFF_FFFF_FFFF → v ≡ leaf s e
   unfolding leaf twosComplement
   leaf-i64 n v h i q = q ∙ rw (h, i)
 
-  pub leaf-double : (n : ℕ) (x : Float) → e .kind ≡ 6 → n ≡ le 8 s (e .value) → x ≡ ofBits binary64 n → double x ≡ leaf s e
+  pub leaf-double : (n : ℕ) (x : Float) → e .kind ≡ 6 → n ≡ leAt 8 s (e .value) → x ≡ ofBits binary64 n → double x ≡ leaf s e
   unfolding leaf
   leaf-double n x h i j = rw (h, ← i, ← j)
 
@@ -64,7 +64,7 @@ module _ (s : List ℕ) (e : Entry) where
   unfolding leaf
   leaf-bytes h = rw h
 
-  pub leaf-rest : (n : ℕ) → n ≡ le 8 s (e .value) → (e .kind ≡ 1 → ⊥) → (e .kind ≡ 2 → ⊥) → (e .kind ≡ 3 → ⊥) → (e .kind ≡ 4 → ⊥)
+  pub leaf-rest : (n : ℕ) → n ≡ leAt 8 s (e .value) → (e .kind ≡ 1 → ⊥) → (e .kind ≡ 2 → ⊥) → (e .kind ≡ 3 → ⊥) → (e .kind ≡ 4 → ⊥)
       → (e .kind ≡ 6 → ⊥) → (e .kind ≡ 8 → ⊥) → (e .kind ≡ 9 → ⊥) → whole (pos n) ≡ leaf s e
   unfolding leaf
   leaf-rest n i a b c d f g h =

@@ -15,7 +15,7 @@ use Rattle.format.specs.Attributes.{attributes, planeBytes}
 use Rattle.format.specs.Loops.{experiment}
 use Rattle.format.specs.Calibration.{zStep, zFloat, calibrationBy}
 use Rattle.format.specs.Summary.{inThree, summaryOf}
-use Rattle.format.specs.Calls.Open.{summaryIn}
+use Rattle.format.specs.Calls.Open.{summaryOrZero}
 use Rattle.format.specs.declared.Range.{Range}
 use Rattle.format.specs.declared.Entry.{Entry}
 use Rattle.format.specs.declared.Attributes.{Attributes}
@@ -34,7 +34,7 @@ use Rattle.open.specs.declared.Calibrated.the-variants.{Is, Refused}
 -- r is the number and the summary of an answer
 pub record Says (r : Opened) (a : Answer Summary) : Type 0 where
   pub number : r .number ≡ numberOf a
-  pub summary : r .summary ≡ summaryIn a
+  pub summary : r .summary ≡ summaryOrZero a
 
 -- what an experiment gives: its loops and its z step
 pub record Run : Type 0 where

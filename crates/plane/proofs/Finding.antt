@@ -12,7 +12,7 @@ use Rattle.format.specs.Map.{MapEntry, mapEntries, offsetOf}
 use Rattle.format.specs.Attributes.{planeBytes}
 use Rattle.format.specs.Frames.{seqIndex, frameName}
 use Rattle.format.specs.Summary.{shapeOf, loopsOf, mapOf, badSummary}
-use Rattle.format.specs.Calls.Plane.{ceiling, badIndex, badFrame, frameOf, frameFor}
+use Rattle.format.specs.Calls.Plane.{mostPlaneBytes, badIndex, badFrame, frameOf, frameFor}
 use Rattle.format.specs.declared.Range.{Range}
 use Rattle.format.specs.declared.Summary.{Summary}
 use Rattle.chunk.specs.Answers.{findIn}
@@ -51,11 +51,11 @@ module _ (s : List ℕ) (u : Summary) (scene t c z room : ℕ) where
     bad-index q₂ = rw (q₁, q₂) refl
 
     module _ (q₂ : badIndex u scene t c z ≡ false) where
-      pub too-large : ltb ceiling (planeBytes (shapeOf u)) ≡ true → refused why.ceiling ≡ frameFor s u scene t c z room
+      pub too-large : ltb mostPlaneBytes (planeBytes (shapeOf u)) ≡ true → refused why.ceiling ≡ frameFor s u scene t c z room
       unfolding frameFor frameOf andThen refuseIf
       too-large q₃ = rw (q₁, q₂, q₃) refl
 
-      module _ (q₃ : ltb ceiling (planeBytes (shapeOf u)) ≡ false) where
+      module _ (q₃ : ltb mostPlaneBytes (planeBytes (shapeOf u)) ≡ false) where
         abbrev name : List ℕ
         name = frameName (seqIndex (loopsOf u) scene t z)
 

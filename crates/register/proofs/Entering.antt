@@ -7,7 +7,7 @@ use native.Mathlib.Omega.{arith}
 use lib.ListN.{length, drop}
 use lib.Seq.{sets}
 use Rattle.format.specs.Answer.{Answer, given, refused, andThen}
-use Rattle.format.specs.Bytes.{le, leBytes, part, over}
+use Rattle.format.specs.Bytes.{leAt, leBytes, part, over}
 use Rattle.format.specs.Map.{MapEntry, mapFrom, mapEntries, mostEntries, prepend}
 use Rattle.format.specs.Frames.{frameName}
 use Rattle.format.specs.Calls.Register.{placeBytes, registerFrom}
@@ -44,7 +44,7 @@ module _ (m : List ℕ) (at n count : ℕ) (few : count < 2 ^ 64) (buf : List �
 
     module _ (h : k < count) where
       placed : (ls : List Loop) (b : List ℕ)
-          → sets (over (registerFrom count m es ls 0) b) (24 * k + 12) (leBytes 4 0 ++ leBytes 8 (le 8 m (at + n))) ≡ over (registerFrom count m (es ++ e ∷ []) ls 0) b
+          → sets (over (registerFrom count m es ls 0) b) (24 * k + 12) (leBytes 4 0 ++ leBytes 8 (leAt 8 m (at + n))) ≡ over (registerFrom count m (es ++ e ∷ []) ls 0) b
       unfolding over placeBytes
       placed ls b =
           let l₁ : length (registerFrom count m es ls 0) ≡ 24 * count = register-length m es ls count 0 in
@@ -52,7 +52,7 @@ module _ (m : List ℕ) (at n count : ℕ) (few : count < 2 ^ 64) (buf : List �
           rw (l₁, l₂)
           (register-stored m es ls e count 0 k (drop (24 * count) b) h (rw zero-add (true-same _ _ (x .0))) λ i _ l f. false-same _ _ λ q. f (the-frame i (omega arith) q ∙ sym (zero-add k)))
 
-      pub of-frame : {o : ℕ} {out : List ℕ} → o ≡ le 8 m (at + n) → out ≡ sets buf (24 * k + 12) (leBytes 4 0 ++ leBytes 8 o) → Taken m count es (es ++ e ∷ []) buf out
+      pub of-frame : {o : ℕ} {out : List ℕ} → o ≡ leAt 8 m (at + n) → out ≡ sets buf (24 * k + 12) (leBytes 4 0 ++ leBytes 8 o) → Taken m count es (es ++ e ∷ []) buf out
       of-frame p q = record { taken = λ ls b r. q ∙ rw (p, r) (placed ls b) }
 
 -- ---- all of them

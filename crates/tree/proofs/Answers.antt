@@ -8,7 +8,7 @@ use borrow.Author.Tests.{lt-ltb, le-ltb, le-leb, lt-leb, ne-eqb}
 use lib.ListN.{length, getD}
 use lib.Dec.{eqb}
 use Rattle.format.proofs.Trees.{records-step}
-use Rattle.format.specs.Bytes.{le}
+use Rattle.format.specs.Bytes.{leAt}
 use Rattle.format.specs.Text.{units}
 use Rattle.format.specs.Trees.{at, fault, Read, ends, follow, fixedValue, textUnits, textValue, bytesValue, Children, levelValue, levelEnd, fixedLen, value, known, ChildrenAt, recordAt, records}
 use Rattle.format.specs.declared.Entry.{Entry}
@@ -50,11 +50,11 @@ module _ (d : List ℕ) (c : Cursor) (w : Within c d) where
       pub two : c .at + 2 ≤ c .end
 
     pub head-begun : {m : ℕ} {v : Cursor} → wordAt 1 d a ≡ Got m v → Begun m v
-    unfolding le
+    unfolding leAt
     head-begun {m} {v} h =
         let (f, q, p) = was-got 1 d c kind in
         let (g, r, z) = was-got 1 d a h in
-        let r′ : m ≡ le 1 d (c .at + 1) = rw p at r in
+        let r′ : m ≡ leAt 1 d (c .at + 1) = rw p at r in
         let z′ : v ≡ to (c .at + 1 + 1) (c .end) = rw p at z in
         let g′ : 1 ≤ c .end - (c .at + 1) = rw p at g in
         record { type-is = omega arith; units-are = omega arith; name-at = rw z′ (omega arith); name-end = rw z′; two = omega (arith, w .order) }
@@ -198,11 +198,11 @@ module _ (d : List ℕ) (c : Cursor) (w : Within c d) {start : ℕ} (before : st
 
       module _ {n : ℕ} {v : Cursor} (sized : wordAt 8 d l ≡ Got n v) where
         -- the two numbers, and where the children begin
-        numbers : (k ≡ le 4 d (c .at)) × (n ≡ le 8 d (c .at + 4)) × (v .at ≡ c .at + 12) × (v .end ≡ c .end) × (c .at + 12 ≤ c .end)
+        numbers : (k ≡ leAt 4 d (c .at)) × (n ≡ leAt 8 d (c .at + 4)) × (v .at ≡ c .at + 12) × (v .end ≡ c .end) × (c .at + 12 ≤ c .end)
         numbers =
             let (a, q, p) = was-got 4 d c counted in
             let (b, r, z) = was-got 8 d l sized in
-            let r′ : n ≡ le 8 d (c .at + 4) = rw p at r in
+            let r′ : n ≡ leAt 8 d (c .at + 4) = rw p at r in
             let z′ : v ≡ to (c .at + 4 + 8) (c .end) = rw p at z in
             let b′ : 8 ≤ c .end - (c .at + 4) = rw p at b in
             (q, r′, rw z′ (omega arith), rw z′, omega (arith, w .order))

@@ -33,9 +33,9 @@ opened s room =
     (andThen (calibration s m map room (zFloat (zStep mostDepth s es i))) λ c.
     given (summaryOf r a ls c))
 
-unfoldable pub summaryIn : Answer Summary → Summary
-summaryIn (refused n) = zeroSummary
-summaryIn (given u) = u
+unfoldable pub summaryOrZero : Answer Summary → Summary
+summaryOrZero (refused n) = zeroSummary
+summaryOrZero (given u) = u
 
 -- the call's number, its summary, and what the table holds afterwards
 pub record Opening : Type 0 where
@@ -44,7 +44,7 @@ pub record Opening : Type 0 where
   pub table : List ℕ
 
 unfoldable pub openCall : List ℕ → List ℕ → Opening
-unfolding opened numberOf summaryIn zeros
+unfolding opened numberOf summaryOrZero zeros
 openCall file table =
     let answer = opened file (roomIn (length table)) in
-    record { number = numberOf answer; summary = summaryIn answer; table = zeros (length table) }
+    record { number = numberOf answer; summary = summaryOrZero answer; table = zeros (length table) }

@@ -18,8 +18,8 @@ use Rattle.format.specs.declared.Axis.the-variants.{T, Z, P}
 use Rattle.format.specs.declared.Summary.{Summary}
 
 -- "plane over 4,294,967,296 bytes"
-abbrev pub ceiling : ℕ
-ceiling = 4_294_967_296
+abbrev pub mostPlaneBytes : ℕ
+mostPlaneBytes = 4_294_967_296
 
 -- "scene, t, c or z not below its count"
 unfoldable pub badIndex : Summary → ℕ → ℕ → ℕ → ℕ → Bool
@@ -39,7 +39,7 @@ unfolding frameName badIndex badFrame
 frameOf s u scene t c z =
     refuseIf (badSummary s u) why.summary
     (refuseIf (badIndex u scene t c z) why.index
-    (refuseIf (ltb ceiling (planeBytes (shapeOf u))) why.ceiling
+    (refuseIf (ltb mostPlaneBytes (planeBytes (shapeOf u))) why.ceiling
     (andThen (mapEntries (mapOf s u)) λ es.
     andThen (orRefuse (offsetOf (mapOf s u) (frameName (seqIndex (loopsOf u) scene t z)) es) why.noFrame) λ o.
     andThen (chunkData [] s o) λ r.

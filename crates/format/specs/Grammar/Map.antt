@@ -3,7 +3,7 @@ use Prim.Native.Nat.{ℕ, suc, _+_, _-_, _≤_, _<_}
 use mathlib.Core.Path.{_≡_}
 use mathlib.Core.List.{List, [], _∷_}
 use lib.ListN.{length, getD}
-use Rattle.format.specs.Bytes.{le, part}
+use Rattle.format.specs.Bytes.{leAt, part}
 use Rattle.format.specs.declared.Range.{Range}
 use Rattle.format.specs.Chunks.{chunkMark, dataIn}
 use Rattle.format.specs.Map.{MapEntry, endMark, mapName, mostEntries}
@@ -19,7 +19,7 @@ pub record Name (m : List ℕ) (at k : ℕ) : Type 0 where
 pub data Entries (m : List ℕ) : ℕ → List MapEntry → Type 0 where
   ended : {at : ℕ} (k : ℕ) → Name m at k → part m at (suc k) ≡ endMark → Entries m at []
   entry : {at : ℕ} (k : ℕ) {es : List MapEntry} → Name m at k → (part m at (suc k) ≡ endMark → ⊥) → at + suc k + 16 ≤ length m → Entries m (at + suc k + 16) es
-      → Entries m at (record { nameAt = at; nameLen = suc k; offset = le 8 m (at + suc k); size = le 8 m (at + suc k + 8) } ∷ es)
+      → Entries m at (record { nameAt = at; nameLen = suc k; offset = leAt 8 m (at + suc k); size = leAt 8 m (at + suc k + 8) } ∷ es)
 
 -- the map's data m has these entries, in order
 pub record MapOf (m : List ℕ) (es : List MapEntry) : Type 0 where
@@ -38,10 +38,10 @@ pub data Listed (m name : List ℕ) : List MapEntry → ℕ → Type 0 where
 
 -- the map of a file: first mark, locator, map chunk, entries
 pub record Mapped (s : List ℕ) (r : Range) (es : List MapEntry) : Type 0 where
-  pub first-mark : le 4 s 0 ≡ chunkMark
+  pub first-mark : leAt 4 s 0 ≡ chunkMark
   pub locator-within : 40 ≤ length s
   pub locator : part s (length s - 40) 32 ≡ endMark
-  pub map-chunk : Chunk mapName s (le 8 s (length s - 8)) r
+  pub map-chunk : Chunk mapName s (leAt 8 s (length s - 8)) r
   pub map-of : MapOf (dataIn s r) es
 
 -- the map m has a chunk under this name, whose data is r

@@ -3,7 +3,7 @@ use Prim.Native.Nat.{ℕ, suc, _+_, _-_, _*_, _≤_, _<_}
 use mathlib.Core.Path.{_≡_}
 use mathlib.Core.List.{List, [], _∷_, _++_}
 use lib.ListN.{length, getD}
-use Rattle.format.specs.Bytes.{le}
+use Rattle.format.specs.Bytes.{leAt}
 use Rattle.format.specs.Refusals as why
 use Rattle.format.specs.Chunks.{dataIn}
 use Rattle.format.specs.declared.Range.{Range}
@@ -31,25 +31,25 @@ pub data Fixed : ℕ → ℕ → Type 0 where
 
 -- the n units from v on are not 0
 abbrev pub Units : List ℕ → ℕ → ℕ → Type 0
-Units d v n = (j : ℕ) → j < n → le 2 d (v + 2 * j) ≡ 0 → ⊥
+Units d v n = (j : ℕ) → j < n → leAt 2 d (v + 2 * j) ≡ 0 → ⊥
 
 -- A value of type k that is no level stands at v, in a level that ends at e: `Plain d e v k from len p` says that the value is the len bytes
 -- from `from` on, and that p is the place after it.
 pub data Plain (d : List ℕ) (e v : ℕ) : ℕ → ℕ → ℕ → ℕ → Type 0 where
   fixed : {k n : ℕ} → Fixed k n → v + n ≤ e → Plain d e v k v n (v + n)
-  text-ended : (n : ℕ) → Units d v n → le 2 d (v + 2 * n) ≡ 0 → v + 2 * n + 2 ≤ e → Plain d e v 8 v (2 * n) (v + 2 * n + 2)
+  text-ended : (n : ℕ) → Units d v n → leAt 2 d (v + 2 * n) ≡ 0 → v + 2 * n + 2 ≤ e → Plain d e v 8 v (2 * n) (v + 2 * n + 2)
   text-cut : (n : ℕ) → Units d v n → v + 2 * n ≤ e → e < v + 2 * n + 2 → Plain d e v 8 v (2 * n) (v + 2 * n)
-  bytes : v + 8 + le 8 d v ≤ e → Plain d e v 9 (v + 8) (le 8 d v) (v + 8 + le 8 d v)
+  bytes : v + 8 + leAt 8 d v ≤ e → Plain d e v 9 (v + 8) (leAt 8 d v) (v + 8 + leAt 8 d v)
 
 -- a level's count, where its children begin and end, and the place after it, where its record begins at i
 abbrev pub countAt : List ℕ → ℕ → ℕ
-countAt d i = le 4 d (valueStart d i)
+countAt d i = leAt 4 d (valueStart d i)
 
 abbrev pub kidsFrom : List ℕ → ℕ → ℕ
 kidsFrom d i = valueStart d i + 12
 
 abbrev pub kidsTo : List ℕ → ℕ → ℕ
-kidsTo d i = i + le 8 d (valueStart d i + 4)
+kidsTo d i = i + leAt 8 d (valueStart d i + 4)
 
 abbrev pub levelTo : List ℕ → ℕ → ℕ
 levelTo d i = kidsTo d i + 8 * countAt d i
@@ -102,7 +102,7 @@ pub data Wrong (d : List ℕ) (i e : ℕ) : ℕ → ℕ → Type 0 where
   name-cut : {left : ℕ} → Judged (getD d i 0) → e < valueStart d i → Wrong d i e left why.cut
   unknown : {left k : ℕ} → Head d i e k → Judged k → (Kind k → ⊥) → Wrong d i e left why.kind
   number-cut : {left k n : ℕ} → Head d i e k → Fixed k n → e < valueStart d i + n → Wrong d i e left why.cut
-  bytes-cut : {left : ℕ} → Head d i e 9 → e < valueStart d i + 8 + le 8 d (valueStart d i) → Wrong d i e left why.cut
+  bytes-cut : {left : ℕ} → Head d i e 9 → e < valueStart d i + 8 + leAt 8 d (valueStart d i) → Wrong d i e left why.cut
   count-cut : {left : ℕ} → Head d i e 11 → e < valueStart d i + 4 → Wrong d i e left why.cut
   items-over : {left : ℕ} → Head d i e 11 → valueStart d i + 4 ≤ e → mostItems < countAt d i → Wrong d i e left why.level
   length-cut : {left : ℕ} → Head d i e 11 → valueStart d i + 4 ≤ e → countAt d i ≤ mostItems → e < kidsFrom d i → Wrong d i e left why.cut

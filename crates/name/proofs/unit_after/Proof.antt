@@ -1,7 +1,7 @@
 -- `unit_after` reads the next unit of the list of units, 0 past its end. Assumes nothing.
 use native.Mathlib.Omega.{arith}
 use mathlib.Core.Path.{sym, ap, _∙_}
-use Rattle.format.specs.Bytes.{le}
+use Rattle.format.specs.Bytes.{leAt}
 use Rattle.format.proofs.Text.{units-at, units-past}
 use borrow.Author.Needs.{needs}
 use Rattle.name.proofs.unit_after.Statement.{statement}
@@ -23,7 +23,7 @@ le2-requires : tie.Need-le2-requires
 le2-requires c κs = search needs
 
 returns : tie.Need-returns
-returns c = c .le2 .ensures .0 ∙ sym (units-at _ _ _ _ (c .before .if1 .taken) ∙ ap (le 2 _) (omega arith))
+returns c = c .le2 .ensures .0 ∙ sym (units-at _ _ _ _ (c .before .if1 .taken) ∙ ap (leAt 2 _) (omega arith))
 
 returns-2 : tie.Need-returns-2
 returns-2 c = sym (units-past _ _ _ _ (c .if1 .left))

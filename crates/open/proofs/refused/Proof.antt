@@ -4,7 +4,7 @@ use lib.Ieee.{ofBits}
 use borrow.Author.Needs.{needs}
 use Rattle.format.specs.Answer.{numberOf}
 use Rattle.format.specs.Summary.{zeroSummary}
-use Rattle.format.specs.Calls.Open.{summaryIn}
+use Rattle.format.specs.Calls.Open.{summaryOrZero}
 use Rattle.open.proofs.refused.Statement.{statement}
 use Rattle.open.proofs.refused.Tie as tie
 
@@ -12,7 +12,7 @@ no-loops-requires : tie.Need-no-loops-requires
 no-loops-requires c κs = search needs
 
 returns : tie.Need-returns
-unfolding zeroSummary numberOf summaryIn ofBits
+unfolding zeroSummary numberOf summaryOrZero ofBits
 returns c = record { number = refl; summary = rw (c .no-loops .ensures) refl }
 
 pub refused-spec : {M : Type 1} → statement M
