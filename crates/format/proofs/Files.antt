@@ -19,6 +19,8 @@ use Rattle.format.proofs.Steps.{step-read, read-step}
 use Rattle.format.proofs.Calibrated.{calibration-read, read-calibration}
 use Rattle.format.proofs.Suffices.{suffices}
 use Rattle.format.proofs.Depths.{tree-depths}
+use Rattle.format.proofs.Sounds.{distinct-three}
+use Rattle.format.proofs.Summed.{summary-read, read-summary}
 use Rattle.format.specs.Answer.{given, orRefuse}
 use Rattle.format.specs.Refusals as why
 use Rattle.format.specs.Bytes.{ascii, most64}
@@ -58,7 +60,8 @@ module _ (s : List ℕ) (room : ℕ) (u : Summary) where
       let (p₂, x₂, y₂, h₂) = tree-given s (dataIn s r) es (ascii "ImageMetadataLV!") room ts n₂ in
       let (D, R) = tree-depths s p₂ ts y₂ in
       let M = tree-means s p₂ ts y₂ in
-      let there = experiment-at ts i M lv in (
+      let there = experiment-at ts i M lv in
+      let loops = loops-read s ts D R M i there ls lo in (
         record {
           map-place = r;
           map-entries = es;
@@ -76,13 +79,13 @@ module _ (s : List ℕ) (room : ℕ) (u : Summary) where
           experiment-level = i;
           experiment-there = there;
           loops = ls;
-          loops-of = loops-read s ts D R M i there ls lo;
+          loops-of = loops;
           plane-most = pm;
           step = zStep mostDepth s ts i;
           step-found = step-read s ts D R M i there;
           size = z;
           calibrated = cal;
-          summary = su;
+          summary = rw su (summary-read r a ls z (distinct-three ls (loops .distinct)));
         },
         enough,
       )
@@ -148,7 +151,7 @@ module _ (s : List ℕ) (room : ℕ) (u : Summary) where
       (go-on (calibration s m es room (zFloat (zStep mostDepth s ts i))) _ (x .size)
       (ap (λ (z : Option Float). calibration s m es room (zFloat z)) (read-step s ts D R M i (x .experiment-there) (x .step) (x .step-found))
       ∙ read-calibration s m es room (x .step) (x .size) (x .calibrated) (λ q y. length-fits fit r es (ascii "ImageCalibrationLV|0!") q (x .mapped) calibrationTree y))
-      (ap given (sym (x .summary)))))))))))
+      (ap given (sym (read-summary r a (x .loops) (x .size) u (x .summary))))))))))))
 
   -- (b) what is opened is what the grammar joins to the bytes, where the table has entries enough
   pub opened-iff-joined : (opened s room ≡ given u) ↔ (Joined s u × Enough s room)

@@ -1,18 +1,17 @@
 -- A summary that a file is joined to passes the test 20. Assumes nothing.
 use Prim.Native.Nat.{ℕ, _≤_, _<_}
-use mathlib.Core.Path.{_≡_, sym, _∙_, subst}
+use mathlib.Core.Path.{_≡_, _∙_}
 use mathlib.Core.List.{List, [], _∷_, _++_, reverse}
 use native.Mathlib.Omega.{arith}
 use lib.ListN.{length, take, replicate}
 use lib.Seq.{take-take, take-append-seam}
 use Rattle.format.proofs.Appended.{Each, no-more, one, walks-each, each-reverse}
 use Rattle.format.proofs.Frames.{axis-number}
-use Rattle.format.specs.declared.Attributes.{Attributes}
 use Rattle.format.specs.Loops.{mostCount, Built, axisNumber}
-use Rattle.format.specs.Summary.{noLoop, inThree, summaryOf}
+use Rattle.format.specs.Summary.{noLoop, inThree, shapeOf}
 use Rattle.format.specs.Grammar.Loops.{Distinct, Counted, Walks, OnAxes, LoopsOf}
 use Rattle.format.specs.Grammar.Loops.{nil, cons}
-use Rattle.format.specs.Grammar.File.{Joined}
+use Rattle.format.specs.Grammar.File.{SummaryOf, Joined}
 use Rattle.format.specs.Refused.Summary.{Sound}
 use Rattle.format.specs.declared.Entry.{Entry}
 use Rattle.format.specs.declared.Axis.{Axis}
@@ -40,7 +39,7 @@ axis-below T = omega arith
 axis-below Z = omega arith
 axis-below P = omega arith
 
-distinct-three : (ls : List Loop) → Distinct ls → length ls ≤ 3
+pub distinct-three : (ls : List Loop) → Distinct ls → length ls ≤ 3
 distinct-three [] d = omega arith
 distinct-three (a ∷ []) d = omega arith
 distinct-three (a ∷ b ∷ []) d = omega arith
@@ -60,33 +59,26 @@ three-loops ls h = take-take (length ls) 3 (ls ++ replicate 3 noLoop) h ∙ take
 -- ---- the summary of a file
 
 pub joined-sound : (s : List ℕ) (u : Summary) → Joined s u → Sound s u
-unfolding summaryOf
-joined-sound s u x = subst (Sound s) (sym (x .summary)) sound
+joined-sound s u x =
+    record {
+      bits = rw (y .bits) (x .attributes-of .bits-known);
+      shape = rw shape (x .attributes-of .shape);
+      plane-most = rw shape (x .plane-most);
+      loops-most = rw (y .depth) (distinct-three (x .loops) (lo .distinct));
+      loops-counted = rw (y .loops-used) all-counted;
+      loops-distinct = rw (y .loops-used) (lo .distinct);
+      map-within = let c = x .mapped .map-chunk in rw (y .map) (omega (arith, c .data-within, c .data-start, c .data-len));
+    }
   where
-    a : Attributes
-    a = x .attributes
+    y : SummaryOf (x .map-place) (x .attributes) (x .loops) (x .size) u
+    y = x .summary
 
     lo : LoopsOf s (x .experiment-tree) (x .experiment-level) (x .loops)
     lo = x .loops-of
 
-    most : length (x .loops) ≤ 3
-    most = distinct-three (x .loops) (lo .distinct)
-
-    in-place : take (length (x .loops)) (inThree (x .loops)) ≡ x .loops
-    in-place = three-loops (x .loops) most
+    shape : shapeOf u ≡ x .attributes
+    shape = λ k. record { width = y .width k; stride = y .stride k; height = y .height k; components = y .components k; bits = y .bits k }
 
     all-counted : Counted (x .loops)
     all-counted =
         range-counted (reverse (lo .built)) (x .loops) (lo .on-axes) (in-range s (x .experiment-tree) (x .experiment-level ∷ []) 0 (lo .built) (lo .walked))
-
-    sound : Sound s (summaryOf (x .map-place) a (x .loops) (x .size))
-    sound =
-        record {
-          bits = x .attributes-of .bits-known;
-          shape = x .attributes-of .shape;
-          plane-most = x .plane-most;
-          loops-most = most;
-          loops-counted = subst Counted (sym in-place) all-counted;
-          loops-distinct = subst Distinct (sym in-place) (lo .distinct);
-          map-within = let c = x .mapped .map-chunk in omega (arith, c .data-within, c .data-start, c .data-len);
-        }

@@ -1,8 +1,9 @@
 -- "The grammar": "By its bytes alone a file is joined to a summary".
-use Prim.Native.Nat.{ℕ, _≤_}
+use Prim.Native.Nat.{ℕ, _≤_, _<_}
 use mathlib.Core.Path.{_≡_}
-use mathlib.Core.Option.{Option}
+use mathlib.Core.Option.{Option, some}
 use mathlib.Core.List.{List, [], _∷_}
+use lib.ListN.{length, getElem?}
 use lib.Ieee.{Float}
 use Rattle.format.specs.Bytes.{ascii, most64}
 use Rattle.format.specs.Chunks.{dataIn}
@@ -12,8 +13,9 @@ use Rattle.format.specs.Values.{level}
 use Rattle.format.specs.declared.Attributes.{Attributes}
 use Rattle.format.specs.Attributes.{planeBytes}
 use Rattle.format.specs.declared.Calibration.{Calibration}
-use Rattle.format.specs.Summary.{summaryOf}
+use Rattle.format.specs.Summary.{loopsOf}
 use Rattle.format.specs.declared.Entry.{Entry}
+use Rattle.format.specs.declared.Axis.the-variants.{T}
 use Rattle.format.specs.declared.Loop.{Loop}
 use Rattle.format.specs.declared.Summary.{Summary}
 use Rattle.format.specs.Grammar.Map.{Mapped, Named}
@@ -22,6 +24,25 @@ use Rattle.format.specs.Grammar.Values.{Field}
 use Rattle.format.specs.Grammar.Attributes.{AttributesOf}
 use Rattle.format.specs.Grammar.Loops.{LoopsOf}
 use Rattle.format.specs.Grammar.Calibration.{Steps, Calibrated}
+
+-- u is the summary of a map's data m, attributes a, loops ls and a calibration c: "just these sizes and bits, the map data's place and length, the appended loops
+-- in order and what Calibration gives". Of its three places for loops, those that are not used have the axis T and the count 0.
+pub record SummaryOf (m : Range) (a : Attributes) (ls : List Loop) (c : Calibration) (u : Summary) : Type 0 where
+  pub width : u .width ≡ a .width
+  pub stride : u .stride ≡ a .stride
+  pub height : u .height ≡ a .height
+  pub components : u .components ≡ a .components
+  pub bits : u .bits ≡ a .bits
+  pub map : u .map ≡ m
+  pub depth : u .depth ≡ length ls
+  pub loops-used : loopsOf u ≡ ls
+  pub loops-places : length (u .loops) ≡ 3
+  pub loops-unused : (i : ℕ) → length ls ≤ i → i < 3 → getElem? (u .loops) i ≡ some (record { axis = T; count = 0 })
+  pub calibration : u .calibration ≡ c .state
+  pub x : u .x ≡ c .size
+  pub y : u .y ≡ c .size
+  pub class : u .class ≡ c .class
+  pub z : u .z ≡ c .z
 
 -- "when first mark, locator, map, both needed chunks and their trees are formed as above, within each limit; of 11 to 17 none holds; and the summary has just
 -- these sizes and bits, the map data's place and length, the appended loops in order and what Calibration gives"
@@ -48,4 +69,4 @@ pub record Joined (s : List ℕ) (u : Summary) : Type 0 where
   pub step-found : Steps s experiment-tree (experiment-level ∷ []) step
   pub size : Calibration
   pub calibrated : Calibrated s (dataIn s map-place) map-entries step size
-  pub summary : u ≡ summaryOf map-place attributes loops size
+  pub summary : SummaryOf map-place attributes loops size u
