@@ -31,7 +31,7 @@ not-deepest f = omega (arith, f .shallow, f .enough)
 module _ (s : List ℕ) (es : List Entry) (D : ℕ → ℕ) (R : Ranked D 0 es) where
   -- a value that is a level is its entry's
   level-own : (j i : ℕ) (v : Value) → ValueOf s es j v → v ≡ level i → (j ≡ i) × (D j < mostDepth)
-  level-own j i v (is-leaf {e = e} q k) z = absurd (leaf-level s e i z)
+  level-own j i v (is-leaf {e = e} q k) z = absurd (leaf-level s e v k i z)
   level-own j i v (is-level {e = e} q k n) z = (cc, level-depth D es R j e q k)
   level-own j i v (is-list q k n a d x) z = absurd (let z : _≡_ {A = ℕ} 0 1 = cc in omega arith)
 

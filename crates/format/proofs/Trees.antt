@@ -534,7 +534,7 @@ fixed-of k n u64 = of-value {k = 5} (omega arith) (omega arith)
 fixed-of k n f64 = of-value {k = 6} (omega arith) (omega arith)
 fixed-of k n pointer = of-value {k = 7} (omega arith) (omega arith)
 
-plain-of : (d : List ℕ) (e v k from len p : ℕ) → Plain d e v k from len p → Kind k
+pub plain-of : (d : List ℕ) (e v k from len p : ℕ) → Plain d e v k from len p → Kind k
 plain-of d e v k from len p (fixed {n} w h) = fixed-of k n w
 plain-of d e v k from len p (text-ended n u z h) = of-value {k = 8} (omega arith) (omega arith)
 plain-of d e v k from len p (text-cut n u h₁ h₂) = of-value {k = 8} (omega arith) (omega arith)

@@ -10,7 +10,8 @@ use lib.ListN.{length, getElem?}
 use borrow.Author.Tests.{eqb-true, eqb-false}
 use Rattle.format.proofs.Answers.{none≢some}
 use Rattle.format.proofs.Lookups.{as-level, level-as, leaf-by}
-use Rattle.format.proofs.Depths.{Ranked, level-depth, child-depth}
+use Rattle.format.proofs.Leaves.{Typed, leaf-read, read-leaf, leaf-kind}
+use Rattle.format.proofs.Depths.{Ranked, level-depth, child-depth, entry-typed}
 use Rattle.format.proofs.Lists.{all-append, all-map, all-rest, all-in, rising-above, just-first, just-unique}
 use Rattle.format.proofs.Slots.{Latest, SlotAt, a-name, no-name, Slots, empty, slot, Holds, Kept, holds-empty, holds-rest, slot-first, slots-of, first-unique, latest-unique, holds-place, slots-length, slots-all, find-latest, find-holds}
 use Rattle.format.proofs.Means.{Means}
@@ -18,7 +19,7 @@ use Rattle.format.specs.Trees.{mostDepth}
 use Rattle.format.specs.Values.{Value, flag, whole, double, text, bytes, level, list, Slot, unnamed, nameOf, slotsOf, spread, elements, collapse, leaf, valueIf, valueFrom, valueAt, slotValue, find, mapOption, field, asLevel}
 use Rattle.format.specs.Loops.{addLevel, levelsOf, levelsIn, childLevels, sizeOf}
 use Rattle.format.specs.Grammar.Lists.{All, over, more, In, here, Rising, Just}
-use Rattle.format.specs.Grammar.Values.{NoList, NoLevel, Elements, Levels, Bears, Place, ValueOf, is-leaf, is-level, is-list, Field, PlaceValue, of-name, of-one, of-several, LevelsIn, SizeOf}
+use Rattle.format.specs.Grammar.Values.{LeafOf, NoList, NoLevel, Elements, Levels, Bears, Place, ValueOf, is-leaf, is-level, is-list, Field, PlaceValue, of-name, of-one, of-several, LevelsIn, SizeOf}
 use Rattle.format.specs.declared.Entry.{Entry}
 
 -- ---- kinds of values
@@ -42,8 +43,11 @@ plain-list v p l e = true≢false (sym p ∙ ap isPlain e)
 leaf-plain : (s : List ℕ) (e : Entry) → isPlain (leaf s e) ≡ true
 leaf-plain s e = leaf-by (λ v. isPlain v ≡ true) (λ b. refl) (λ z. refl) (λ x. refl) (λ a n. refl) (λ a n. refl) s e
 
-pub leaf-level : (s : List ℕ) (e : Entry) → NoLevel (leaf s e)
-leaf-level s e = plain-level (leaf s e) (leaf-plain s e)
+pub leaf-level : (s : List ℕ) (e : Entry) (v : Value) → LeafOf s e v → NoLevel v
+leaf-level s e v x i z = plain-level (leaf s e) (leaf-plain s e) i (read-leaf s e v x ∙ z)
+
+leaf-list : (s : List ℕ) (e : Entry) (v : Value) → LeafOf s e v → NoList v
+leaf-list s e v x l z = plain-list (leaf s e) (leaf-plain s e) l (read-leaf s e v x ∙ z)
 
 -- the three kinds of values
 data Kind : Value → Type 0 where
@@ -154,13 +158,14 @@ module _ (s : List ℕ) (es : List Entry) where
   -- ---- an entry has one value
 
   value-unique : {i : ℕ} {v w : Value} → ValueOf s es i v → ValueOf s es i w → v ≡ w
-  value-unique (is-leaf p k) (is-leaf q l) = ap (leaf s) (Option·some-inj .0 (sym p ∙ q))
-  value-unique (is-leaf p k) (is-level q l n) = absurd (k (same-kind q p l))
-  value-unique (is-leaf p k) (is-list q l n a d x) = absurd (k (same-kind q p l))
-  value-unique (is-level p k m) (is-leaf q l) = absurd (l (same-kind p q k))
+  value-unique (is-leaf {e = e} {v = v} p k) (is-leaf {e = f} {v = w} q l) =
+      sym (read-leaf s e v k) ∙ (ap (leaf s) (Option·some-inj .0 (sym p ∙ q)) ∙ read-leaf s f w l)
+  value-unique (is-leaf {e = e} {v = v} p k) (is-level q l n) = absurd (leaf-kind s e v k (same-kind q p l))
+  value-unique (is-leaf {e = e} {v = v} p k) (is-list q l n a d x) = absurd (leaf-kind s e v k (same-kind q p l))
+  value-unique (is-level p k m) (is-leaf {e = e} {v = v} q l) = absurd (leaf-kind s e v l (same-kind p q k))
   value-unique (is-level p k m) (is-level q l n) = refl
   value-unique (is-level p k m) (is-list q l n a d x) = absurd (m n)
-  value-unique (is-list p k m a d x) (is-leaf q l) = absurd (l (same-kind p q k))
+  value-unique (is-list p k m a d x) (is-leaf {e = e} {v = v} q l) = absurd (leaf-kind s e v l (same-kind p q k))
   value-unique (is-list p k m a d x) (is-level q l n) = absurd (n m)
   value-unique (is-list {j = j} {js = js} p k m a d x) (is-list {j = h} {js = hs} q l n b c y) =
       let same : j ∷ js ≡ h ∷ hs = just-unique a b in
@@ -197,10 +202,10 @@ module _ (s : List ℕ) (es : List Entry) where
       absurd (slot-first {B = Bears s es (suc i)} (no-name b) .none-earlier j (all-in here (rising-above j ks up)) (just-first a))
 
   -- the value of an entry from those of a level's unnamed entries
-  kind-value : (i : ℕ) (e : Entry) → getElem? es i ≡ some e → (val : ℕ → Value) → (e .kind ≡ 11 → (j : ℕ) → Bears s es (suc i) [] j → ValueOf s es j (val j))
+  kind-value : (i : ℕ) (e : Entry) → Typed e → getElem? es i ≡ some e → (val : ℕ → Value) → (e .kind ≡ 11 → (j : ℕ) → Bears s es (suc i) [] j → ValueOf s es j (val j))
       → ValueOf s es i (valueIf (eqb (e .kind) 11) (λ _. collapse val i (slotsOf s es (suc i))) (leaf s e))
   unfolding valueIf
-  kind-value i e q val h = go (eqb (e .kind) 11) refl
+  kind-value i e t q val h = go (eqb (e .kind) 11) refl
     where
       k : Kept (Bears s es (suc i)) (slotsOf s es (suc i))
       k = slots-of s es (suc i)
@@ -209,7 +214,7 @@ module _ (s : List ℕ) (es : List Entry) where
       go true z =
           let own = eqb-true (e .kind) 11 z in
           collapse-value i e q own val (h own) (k .places) (slotsOf s es (suc i)) (k .rising) (k .every) (k .slots)
-      go false z = is-leaf q (eqb-false (e .kind) 11 z)
+      go false z = is-leaf q (leaf-read s e t (eqb-false (e .kind) 11 z))
 
 -- ---- the entries of a tree have values
 
@@ -219,9 +224,9 @@ module _ (s : List ℕ) (es : List Entry) (D : ℕ → ℕ) (R : Ranked D 0 es) 
 
   value-from : (levels i : ℕ) (e : Entry) → getElem? es i ≡ some e → mostDepth < D i + suc levels → ValueOf s es i (valueFrom (suc levels) s es i (some e))
   unfolding valueFrom
-  value-from zero i e q h = kind-value s es i e q (λ j. valueFrom 0 s es j (getElem? es j)) λ k. absurd (omega (arith, level-depth D es R i e q k))
+  value-from zero i e q h = kind-value s es i e (entry-typed D es R i e q) q (λ j. valueFrom 0 s es j (getElem? es j)) λ k. absurd (omega (arith, level-depth D es R i e q k))
   value-from (suc levels) i e q h =
-      kind-value s es i e q (λ j. valueFrom (suc levels) s es j (getElem? es j))
+      kind-value s es i e (entry-typed D es R i e q) q (λ j. valueFrom (suc levels) s es j (getElem? es j))
       λ k j b. rw (b .there) (value-from levels j (b .entry) (b .there) (omega (arith, bears-deeper i j [] b)))
 
   value-of : (i : ℕ) (e : Entry) → getElem? es i ≡ some e → ValueOf s es i (valueAt s es i)
@@ -279,7 +284,7 @@ module _ (s : List ℕ) (es : List Entry) (D : ℕ → ℕ) (R : Ranked D 0 es) 
       all-append (Deeper i) m js (all-map (Deeper j) (Deeper i) (λ k y. record { entry = y .entry; there = y .there; deeper = omega (arith, y .deeper) }) m (h m e)) a
 
   pub list-deeper : (i : ℕ) (v : Value) (l : List ℕ) → ValueOf s es i v → v ≡ list l → All (Deeper i) l
-  list-deeper i v l (is-leaf {e = e} q k) z = absurd (plain-list (leaf s e) (leaf-plain s e) l z)
+  list-deeper i v l (is-leaf {e = e} q k) z = absurd (leaf-list s e v k l z)
   list-deeper i v l (is-level q k n) z = absurd (let z : _≡_ {A = ℕ} 0 1 = cc in omega arith)
   list-deeper i v l (is-list {j = j} {v = w} {js = js} {l = m} q k n a d x) z =
       let same : m ≡ l = cc in

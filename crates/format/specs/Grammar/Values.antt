@@ -1,12 +1,41 @@
 -- "The grammar": what the entries es of a tree in the file s mean, as rules. p is the number of a level's entry plus one, and 0 stands for the whole tree.
-use Prim.Native.Nat.{ℕ, suc, _<_}
+use Prim.Native.Nat.{ℕ, suc, _+_, _*_, _^_, _≤_, _<_}
 use mathlib.Core.Path.{_≡_}
+use mathlib.Core.Bool.{true, false}
 use mathlib.Core.Option.{some}
 use mathlib.Core.List.{List, [], _∷_, _++_}
 use lib.ListN.{length, getElem?}
-use Rattle.format.specs.Values.{Value, level, list, leaf, nameOf}
+use lib.IntN.{ℤ, pos, negsuc}
+use lib.Ieee.{binary64, ofBits}
+use Rattle.format.specs.Bytes.{leAt}
+use Rattle.format.specs.Values.{Value, flag, whole, double, text, bytes, level, list, nameOf}
 use Rattle.format.specs.Grammar.Lists.{Just}
 use Rattle.format.specs.declared.Entry.{Entry}
+
+-- ---- values that are no levels
+
+-- n is the two's complement of a number, where the sign bit counts `half`: below it the number is n, and from it on n − 2 × half, where negsuc m is −(m + 1)
+pub data Complement (half n : ℕ) : ℤ → Type 0 where
+  positive : n < half → Complement half n (pos n)
+  negative : {m : ℕ} → half ≤ n → n + suc m ≡ half + half → Complement half n (negsuc m)
+  -- no bytes stand for such an n: it takes a list with a number over 255
+  beyond : half + half ≤ n → Complement half n (negsuc 0)
+
+-- The value of an entry that is no level: "1 bool (one byte), 2 i32, 3 u32, 4 i64, 5 u64, 6 f64, 7 u64 pointer, 8 text .., 9 .. bytes". A text has a unit for every
+-- two of its bytes.
+pub data LeafOf (s : List ℕ) (e : Entry) : Value → Type 0 where
+  of-unset : e .kind ≡ 1 → leAt 1 s (e .value) ≡ 0 → LeafOf s e (flag false)
+  of-set : e .kind ≡ 1 → (leAt 1 s (e .value) ≡ 0 → ⊥) → LeafOf s e (flag true)
+  of-i32 : {z : ℤ} → e .kind ≡ 2 → Complement (2 ^ 31) (leAt 4 s (e .value)) z → LeafOf s e (whole z)
+  of-u32 : e .kind ≡ 3 → LeafOf s e (whole (pos (leAt 4 s (e .value))))
+  of-i64 : {z : ℤ} → e .kind ≡ 4 → Complement (2 ^ 63) (leAt 8 s (e .value)) z → LeafOf s e (whole z)
+  of-u64 : e .kind ≡ 5 → LeafOf s e (whole (pos (leAt 8 s (e .value))))
+  of-f64 : e .kind ≡ 6 → LeafOf s e (double (ofBits binary64 (leAt 8 s (e .value))))
+  of-pointer : e .kind ≡ 7 → LeafOf s e (whole (pos (leAt 8 s (e .value))))
+  of-text : {n : ℕ} → e .kind ≡ 8 → e .size ≡ 2 * n → LeafOf s e (text (e .value) n)
+  of-bytes : e .kind ≡ 9 → LeafOf s e (bytes (e .value) (e .size))
+
+-- ---- lists and levels
 
 abbrev pub NoList : Value → Type 0
 NoList v = (l : List ℕ) → v ≡ list l → ⊥
@@ -57,7 +86,7 @@ module _ (s : List ℕ) (es : List Entry) where
 
   -- the value of the entry i
   pub data ValueOf : ℕ → Value → Type 0 where
-    is-leaf : {i : ℕ} {e : Entry} → getElem? es i ≡ some e → (e .kind ≡ 11 → ⊥) → ValueOf i (leaf s e)
+    is-leaf : {i : ℕ} {e : Entry} {v : Value} → getElem? es i ≡ some e → LeafOf s e v → ValueOf i v
     is-level : {i : ℕ} {e : Entry} → getElem? es i ≡ some e → e .kind ≡ 11 → (Nameless (suc i) → ⊥) → ValueOf i (level i)
     is-list : {i j : ℕ} {e : Entry} {v : Value} {js l : List ℕ} → getElem? es i ≡ some e → e .kind ≡ 11 → Nameless (suc i)
         → Just (Bears (suc i) []) (j ∷ js) → ValueOf j v → Elements j v js l → ValueOf i (list l)
