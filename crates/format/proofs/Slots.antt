@@ -13,6 +13,7 @@ use lib.ListN.{length, getElem?}
 use borrow.Author.Tests.{eqb-true, eqb-false, ltb-true, ltb-false}
 use Rattle.format.proofs.Answers.{none≢some}
 use Rattle.format.proofs.Tests.{same-true, true-same}
+use Rattle.format.proofs.Surrogates.{name-read, read-name}
 use Rattle.format.proofs.Lists.{all-append, all-map, all-in, just-first, in-left, in-last, rising-rest, rising-above, rising-least, rising-append}
 use Rattle.format.specs.Bytes.{same}
 use Rattle.format.specs.Values.{Slot, named, unnamed, putNamed, putUnnamed, nameOf, put, slotsFrom, slotsOf, find}
@@ -315,7 +316,7 @@ module _ (s : List ℕ) (es : List Entry) (p : ℕ) where
           own : j ≡ i → Seen i n j ⊎ (N n × (j ≡ i))
           own q =
               let z : b .bears .entry ≡ e = Option·some-inj .0 (sym (b .bears .there) ∙ rw q at-i) in
-              inr (rw (b .bears .name-is) at (rw (← z) at (named-so (rw z at (b .bears .child)))), q)
+              inr (rw (read-name s (b .bears .entry) n (b .bears .name-is)) at (rw (← z) at (named-so (rw z at (b .bears .child)))), q)
 
   slots-from : (i : ℕ) (fs : List Entry) (r : List Slot) → ((x : ℕ) → getElem? es (i + x) ≡ getElem? fs x) → Kept (Seen i) r → Kept (Bears s es p) (slotsFrom s p i fs r)
   unfolding slotsFrom
@@ -329,7 +330,7 @@ module _ (s : List ℕ) (es : List Entry) (p : ℕ) where
       go : (b : Bool) → eqb (e .parent) p ≡ b → Kept (Seen (suc i)) (cond b (put (nameOf s e) i r) r)
       go true q =
           put-kept (Seen i) (Seen (suc i)) (nameOf s e) i r (more-seen (λ n. n ≡ nameOf s e) i e at-i (λ _. refl))
-          (record { before = omega arith; bears = record { entry = e; there = at-i; child = eqb-true _ _ q; name-is = refl } }) k
+          (record { before = omega arith; bears = record { entry = e; there = at-i; child = eqb-true _ _ q; name-is = name-read s e } }) k
       go false q = same-kept (Seen i) (Seen (suc i)) i r (more-seen (λ n. ⊥) i e at-i (λ z. eqb-false (e .parent) p q z)) k
 
   pub slots-of : Kept (Bears s es p) (slotsOf s es p)

@@ -12,6 +12,7 @@ use Rattle.format.proofs.Answers.{none≢some}
 use Rattle.format.proofs.Lookups.{as-level, level-as, leaf-by}
 use Rattle.format.proofs.Leaves.{Typed, leaf-read, read-leaf, leaf-kind}
 use Rattle.format.proofs.Depths.{Ranked, level-depth, child-depth, entry-typed}
+use Rattle.format.proofs.Surrogates.{read-name}
 use Rattle.format.proofs.Lists.{all-append, all-map, all-rest, all-in, rising-above, just-first, just-unique}
 use Rattle.format.proofs.Slots.{Latest, SlotAt, a-name, no-name, Slots, empty, slot, Holds, Kept, holds-empty, holds-rest, slot-first, slots-of, first-unique, latest-unique, holds-place, slots-length, slots-all, find-latest, find-holds}
 use Rattle.format.proofs.Means.{Means}
@@ -136,7 +137,9 @@ module _ (s : List ℕ) (es : List Entry) where
   -- ---- names and places
 
   one-name : (p j : ℕ) {n m : List ℕ} → Bears s es p n j → Bears s es p m j → n ≡ m
-  one-name p j b c = let z = Option·some-inj .0 (sym (b .there) ∙ c .there) in sym (b .name-is) ∙ (ap (nameOf s) z ∙ c .name-is)
+  one-name p j {n} {m} b c =
+      let z = Option·some-inj .0 (sym (b .there) ∙ c .there) in
+      sym (read-name s (b .entry) n (b .name-is)) ∙ (ap (nameOf s) z ∙ read-name s (c .entry) m (c .name-is))
 
   places-just : (p : ℕ) → Just (Place s es p) (slots-of s es p .places)
   places-just p =

@@ -5,6 +5,7 @@ pub mod Lists
 pub mod Chunks
 pub mod Map
 pub mod Trees
+pub mod Text
 pub mod Values
 pub mod Numbers
 pub mod Attributes

@@ -8,8 +8,10 @@ use lib.ListN.{length, getElem?}
 use lib.IntN.{ℤ, pos, negsuc}
 use lib.Ieee.{binary64, ofBits}
 use Rattle.format.specs.Bytes.{leAt}
-use Rattle.format.specs.Values.{Value, flag, whole, double, text, bytes, level, list, nameOf}
+use Rattle.format.specs.Text.{units}
+use Rattle.format.specs.Values.{Value, flag, whole, double, text, bytes, level, list}
 use Rattle.format.specs.Grammar.Lists.{Just}
+use Rattle.format.specs.Grammar.Text.{Mended}
 use Rattle.format.specs.declared.Entry.{Entry}
 
 -- ---- values that are no levels
@@ -58,12 +60,12 @@ pub data Levels (Has : ℕ → Value → Type 0) : List ℕ → List ℕ → Typ
 module _ (s : List ℕ) (es : List Entry) where
   -- ---- names
 
-  -- the entry j stands in the level p and bears the name; the empty one is that of an unnamed entry
+  -- the entry j stands in the level p and bears the name, its units with no lone surrogate; the empty one is that of an unnamed entry
   pub record Bears (p : ℕ) (name : List ℕ) (j : ℕ) : Type 0 where
     pub entry : Entry
     pub there : getElem? es j ≡ some entry
     pub child : entry .parent ≡ p
-    pub name-is : nameOf s entry ≡ name
+    pub name-is : Mended (units (entry .units) s (entry .name)) name
 
   -- no later entry of the level bears the name: it "takes the last value"
   pub record Last (p : ℕ) (name : List ℕ) (j : ℕ) : Type 0 where
