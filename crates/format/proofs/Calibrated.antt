@@ -1,14 +1,15 @@
 -- What the grammar says of the calibration is what opening makes of it. Assumes nothing.
 use Prim.Native.Nat.{ℕ, _≤_}
 use mathlib.Core.Path.{_≡_, refl, sym, ap, _∙_, subst}
-use mathlib.Core.Bool.{Bool, true, false, cond, _&&_}
+use mathlib.Core.Bool.{Bool, true, false, cond, _&&_, true≢false, false≢true}
 use mathlib.Core.Option.{Option, none, some}
 use mathlib.Core.List.{List}
 use native.Mathlib.Omega.{arith}
 use lib.Dec.{eqb, leb}
 use lib.ListN.{length, take}
-use lib.Ieee.{Float, lt}
+use lib.Ieee.{Float, nan, inf, fin, lt}
 use borrow.Author.Tests.{leb-true, eqb-true, eqb-false, ne-eqb}
+use Rattle.format.proofs.Tests.{and-left, and-right}
 use Rattle.format.proofs.Answers.{refused≢given, none≢some, given-inj, Numbered, refusal}
 use Rattle.format.proofs.Trees.{tree-read, fault-read, read-fault}
 use Rattle.format.proofs.Rules.{States, no-such, none-of, bind-some, some-bind, cond-some}
@@ -28,14 +29,14 @@ use Rattle.format.specs.Calibration.{leastStep, mostStep, zClass, zFloat
 use Rattle.format.specs.declared.Calibration.{Calibration}
 use Rattle.format.specs.Grammar.Map.{Named}
 use Rattle.format.specs.Grammar.Trees.{Tree}
-use Rattle.format.specs.Grammar.Calibration.{Classed, no-step, no-distance, smaller, larger, used, PixelSize, Calibrated, sized, unsized, ends-packed, faulty, missing}
+use Rattle.format.specs.Grammar.Calibration.{Finite, number, Distance, Classed, no-step, no-distance, smaller, larger, used, PixelSize, Calibrated, sized, unsized, ends-packed, faulty, missing}
 use Rattle.format.specs.declared.Entry.{Entry}
 
 -- ---- the pixel size
 
 module _ (s : List ℕ) (es : List Entry) (M : Means s es) where
   pub pixel-in : States (pixelSize s es) (PixelSize s es)
-  unfolding pixelSize ascii
+  unfolding pixelSize positive ascii
   pixel-in =
       record {
         holds = λ x e.
@@ -45,14 +46,42 @@ module _ (s : List ℕ) (es : List Entry) (M : Means s es) where
         only = λ x z. some-above _ x (some-bind _ _ (z .at-level) x (level-at s es M 0 .only (z .at-level) (z .level-there)) (double-in s es M (z .at-level) .only x (z .stated))) (z .above-0);
       }
     where
-      above : (o : Option Float) (x : Float) → aboveZero o ≡ some x → (o ≡ some x) × (positive x ≡ true)
+      above : (o : Option Float) (x : Float) → aboveZero o ≡ some x → (o ≡ some x) × (lt zeroFloat x ≡ true)
       above none x e = absurd (none≢some e)
       above (some y) x e = let (q, z) = cond-some (positive y) y x e in (ap some z, rw (← z) q)
 
-      some-above : (o : Option Float) (x : Float) → o ≡ some x → positive x ≡ true → aboveZero o ≡ some x
+      some-above : (o : Option Float) (x : Float) → o ≡ some x → lt zeroFloat x ≡ true → aboveZero o ≡ some x
       some-above o x q h = rw (q, h) refl
 
 -- ---- the class of the step
+
+-- a positive finite number
+module _ (x : Float) where
+  distance-read : (positive x && finite x) ≡ true → Distance x
+  unfolding positive finite
+  distance-read e = record { above-0 = and-left (positive x) (finite x) e; finite = go x (and-right (positive x) (finite x) e) }
+    where
+      go : (x : Float) → finite x ≡ true → Finite x
+      go nan e = absurd (false≢true e)
+      go (inf s) e = absurd (false≢true e)
+      go (fin s m e) q = number
+
+  read-distance : Distance x → (positive x && finite x) ≡ true
+  unfolding positive finite
+  read-distance d = rw (d .above-0, go x (d .finite)) refl
+    where
+      go : (x : Float) → Finite x → finite x ≡ true
+      go x number = refl
+
+  no-distance-read : (positive x && finite x) ≡ false → Distance x → ⊥
+  no-distance-read e d = true≢false (sym (read-distance d) ∙ e)
+
+  read-no-distance : (Distance x → ⊥) → (positive x && finite x) ≡ false
+  read-no-distance f = go (positive x && finite x) refl
+    where
+      go : (b : Bool) → (positive x && finite x) ≡ b → b ≡ false
+      go true q = absurd (f (distance-read q))
+      go false q = refl
 
 -- the class and the z of the step that was found
 abbrev classOf : Option Float → ℕ
@@ -71,18 +100,18 @@ classed (some x) = go (positive (narrow x) && finite (narrow x)) refl (lt (narro
 
     go : (n : Bool) → (positive (narrow x) && finite (narrow x)) ≡ n → (a : Bool) → lt (narrow x) leastStep ≡ a → (b : Bool) → lt mostStep (narrow x) ≡ b
         → Classed (some x) (class n a b) (cond (eqb (class n a b) 1) (narrow x) zeroFloat)
-    go false h a p b q = no-distance h
-    go true h true p b q = smaller h p
-    go true h false p true q = larger h p q
-    go true h false p false q = used h p q
+    go false h a p b q = no-distance (no-distance-read (narrow x) h)
+    go true h true p b q = smaller (distance-read (narrow x) h) p
+    go true h false p true q = larger (distance-read (narrow x) h) p q
+    go true h false p false q = used (distance-read (narrow x) h) p q
 
 class-is : (z : Option Float) (c : ℕ) (y : Float) → Classed z c y → (classOf z ≡ c) × (zOf z ≡ y)
 unfolding zFloat zClass keptZ
 class-is z c y no-step = (refl, refl)
-class-is z c y (no-distance h) = rw h (refl, refl)
-class-is z c y (smaller h p) = rw (h, p) (refl, refl)
-class-is z c y (larger h p q) = rw (h, p, q) (refl, refl)
-class-is z c y (used h p q) = rw (h, p, q) (refl, refl)
+class-is z c y (no-distance {x = x} h) = rw (read-no-distance (narrow x) h) (refl, refl)
+class-is z c y (smaller {x = x} h p) = rw (read-distance (narrow x) h, p) (refl, refl)
+class-is z c y (larger {x = x} h p q) = rw (read-distance (narrow x) h, p, q) (refl, refl)
+class-is z c y (used {x = x} h p q) = rw (read-distance (narrow x) h, p, q) (refl, refl)
 
 -- ---- what calibration gives
 
@@ -93,7 +122,7 @@ module _ (s m : List ℕ) (es : List MapEntry) (room : ℕ) (z : Option Float) w
   -- what opening makes of a tree of the calibration
   size-tree : (r : Range) (size : Calibration) → Named s m es name r → calibrationBy s (zFloat z) (treeEntries (within room (treeIn s r))) ≡ given size
       → Calibrated s m es z size × (length (treeIn s r .entries) ≤ room)
-  unfolding calibrationBy within wholeTree
+  unfolding calibrationBy unstated within wholeTree
   size-tree r size x e = go (leb (length (treeIn s r .entries)) room) refl e
     where
       pixel : (ts : List Entry) → Tree s r ts → (o : Option Float) → pixelSize s ts ≡ o → Calibrated s m es z (stated o (zFloat z))
@@ -119,7 +148,7 @@ module _ (s m : List ℕ) (es : List MapEntry) (room : ℕ) (z : Option Float) w
 
   pub calibration-read : (size : Calibration) → calibration s m es room (zFloat z) ≡ given size
       → Calibrated s m es z size × ((r : Range) → Named s m es name r → length (treeIn s r .entries) ≤ room)
-  unfolding calibration namedTree andThen calibrationBy
+  unfolding calibration namedTree andThen calibrationBy unstated
   calibration-read size e = go (namedChunk s m es name) refl (named-numbered s m es name) e
     where
       go : (x : Answer Range) → namedChunk s m es name ≡ x → Numbered Missing x
@@ -141,7 +170,7 @@ module _ (s m : List ℕ) (es : List MapEntry) (room : ℕ) (z : Option Float) w
   -- and the other way round
   pub read-calibration : (size : Calibration) → Calibrated s m es z size → ((r : Range) → Named s m es name r → length (treeIn s r .entries) ≤ room)
       → calibration s m es room (zFloat z) ≡ given size
-  unfolding calibration
+  unfolding calibration unstated
   read-calibration size (sized {r = r} {ts = ts} {x = c} x y p k) fit =
       let (e₁, e₂) = class-is z _ _ k in
       rw (given-tree s m es name room ts r x y (fit r x), pixel-in s ts (tree-means s r ts y) .only c p, e₂, e₁) refl

@@ -1,16 +1,16 @@
 -- "The grammar": the z step, and what calibration gives, as rules.
 use Prim.Native.Nat.{ℕ, _<_}
 use mathlib.Core.Path.{_≡_}
-use mathlib.Core.Bool.{true, false, _&&_}
+use mathlib.Core.Bool.{Bool, true, false}
 use mathlib.Core.Option.{Option, none, some}
 use mathlib.Core.List.{List, [], _∷_}
-use lib.IntN.{pos}
-use lib.Ieee.{Float, binary64, ofInt, ne, lt, sub, div}
+use lib.IntN.{ℤ, pos}
+use lib.Ieee.{Float, fin, binary64, ofInt, ne, lt, sub, div}
 use Rattle.format.specs.Bytes.{ascii}
 use Rattle.format.specs.Map.{MapEntry}
 use Rattle.format.specs.Values.{level}
-use Rattle.format.specs.Numbers.{zeroFloat, oneFloat, magnitude, narrow, positive, finite}
-use Rattle.format.specs.Calibration.{leastStep, mostStep, unstated}
+use Rattle.format.specs.Numbers.{zeroFloat, oneFloat, magnitude, narrow}
+use Rattle.format.specs.Calibration.{leastStep, mostStep}
 use Rattle.format.specs.Grammar.Map.{Named}
 use Rattle.format.specs.Grammar.Trees.{Tree, Faulty}
 use Rattle.format.specs.Grammar.Values.{Field}
@@ -51,14 +51,23 @@ module _ (s : List ℕ) (es : List Entry) where
     below : {i : ℕ} {is ks : List ℕ} {x : Float} → NoStep i → Below s es i ks → Steps ks (some x) → Steps (i ∷ is) (some x)
     beside : {i : ℕ} {is ks : List ℕ} {z : Option Float} → NoStep i → Below s es i ks → Steps ks none → Steps is z → Steps (i ∷ is) z
 
+-- no NaN and no infinity
+pub data Finite : Float → Type 0 where
+  number : {sign : Bool} {m : ℕ} {e : ℤ} → Finite (fin sign m e)
+
+-- "a positive finite number"
+pub record Distance (x : Float) : Type 0 where
+  pub above-0 : lt zeroFloat x ≡ true
+  pub finite : Finite x
+
 -- The class of the step that was found, and the z that is kept. "In f32: class 0 none or not a positive finite number, 1 used (1e-6 to 1e3), 2 smaller, 3 larger.
 -- Only class 1 keeps z."
 pub data Classed : Option Float → ℕ → Float → Type 0 where
   no-step : Classed none 0 zeroFloat
-  no-distance : {x : Float} → (positive (narrow x) && finite (narrow x)) ≡ false → Classed (some x) 0 zeroFloat
-  smaller : {x : Float} → (positive (narrow x) && finite (narrow x)) ≡ true → lt (narrow x) leastStep ≡ true → Classed (some x) 2 zeroFloat
-  larger : {x : Float} → (positive (narrow x) && finite (narrow x)) ≡ true → lt (narrow x) leastStep ≡ false → lt mostStep (narrow x) ≡ true → Classed (some x) 3 zeroFloat
-  used : {x : Float} → (positive (narrow x) && finite (narrow x)) ≡ true → lt (narrow x) leastStep ≡ false → lt mostStep (narrow x) ≡ false → Classed (some x) 1 (narrow x)
+  no-distance : {x : Float} → (Distance (narrow x) → ⊥) → Classed (some x) 0 zeroFloat
+  smaller : {x : Float} → Distance (narrow x) → lt (narrow x) leastStep ≡ true → Classed (some x) 2 zeroFloat
+  larger : {x : Float} → Distance (narrow x) → lt (narrow x) leastStep ≡ false → lt mostStep (narrow x) ≡ true → Classed (some x) 3 zeroFloat
+  used : {x : Float} → Distance (narrow x) → lt (narrow x) leastStep ≡ false → lt mostStep (narrow x) ≡ false → Classed (some x) 1 (narrow x)
 
 -- ---- the calibration
 
@@ -67,15 +76,23 @@ pub record PixelSize (s : List ℕ) (es : List Entry) (x : Float) : Type 0 where
   pub at-level : ℕ
   pub level-there : Field s es 0 (ascii "SLxCalibration") (level at-level)
   pub stated : Double s es at-level (ascii "dCalibration") x
-  pub above-0 : positive x ≡ true
+  pub above-0 : lt zeroFloat x ≡ true
+
+-- the map has the calibration's chunk, whose data is r
+abbrev pub CalibrationAt : List ℕ → List ℕ → List MapEntry → Range → Type 0
+CalibrationAt s m es r = Named s m es (ascii "ImageCalibrationLV|0!") r
 
 -- What calibration gives, where z is the step that was found. "rounded to f32 nearest-even, is x and y alike (state 1)"; "A tree that ends in 8 gives state 2, the
--- rest zero; without such a dCalibration, and on a missing chunk or any other fault of chunk or tree, 18 excepted, nothing is stated".
+-- rest zero; without such a dCalibration, and on a missing chunk or any other fault of chunk or tree, 18 excepted, nothing is stated, z and its class neither (all
+-- zero)".
 pub data Calibrated (s m : List ℕ) (es : List MapEntry) (z : Option Float) : Calibration → Type 0 where
-  sized : {r : Range} {ts : List Entry} {x : Float} {c : ℕ} {y : Float} → Named s m es (ascii "ImageCalibrationLV|0!") r → Tree s r ts → PixelSize s ts x
-      → Classed z c y → Calibrated s m es z (record { state = 1; size = narrow x; class = c; z = y })
-  unsized : {r : Range} {ts : List Entry} → Named s m es (ascii "ImageCalibrationLV|0!") r → Tree s r ts → ((x : Float) → PixelSize s ts x → ⊥)
-      → Calibrated s m es z (unstated 0)
-  ends-packed : {r : Range} → Named s m es (ascii "ImageCalibrationLV|0!") r → Faulty s r why.packed → Calibrated s m es z (unstated 2)
-  faulty : {r : Range} {n : ℕ} → Named s m es (ascii "ImageCalibrationLV|0!") r → Faulty s r n → (n ≡ why.packed → ⊥) → Calibrated s m es z (unstated 0)
-  missing : ((r : Range) → Named s m es (ascii "ImageCalibrationLV|0!") r → ⊥) → Calibrated s m es z (unstated 0)
+  sized : {r : Range} {ts : List Entry} {x : Float} {c : ℕ} {y : Float} → CalibrationAt s m es r → Tree s r ts → PixelSize s ts x → Classed z c y
+      → Calibrated s m es z (record { state = 1; size = narrow x; class = c; z = y })
+  unsized : {r : Range} {ts : List Entry} → CalibrationAt s m es r → Tree s r ts → ((x : Float) → PixelSize s ts x → ⊥)
+      → Calibrated s m es z (record { state = 0; size = zeroFloat; class = 0; z = zeroFloat })
+  ends-packed : {r : Range} → CalibrationAt s m es r → Faulty s r why.packed
+      → Calibrated s m es z (record { state = 2; size = zeroFloat; class = 0; z = zeroFloat })
+  faulty : {r : Range} {n : ℕ} → CalibrationAt s m es r → Faulty s r n → (n ≡ why.packed → ⊥)
+      → Calibrated s m es z (record { state = 0; size = zeroFloat; class = 0; z = zeroFloat })
+  missing : ((r : Range) → CalibrationAt s m es r → ⊥)
+      → Calibrated s m es z (record { state = 0; size = zeroFloat; class = 0; z = zeroFloat })
