@@ -1,13 +1,12 @@
 -- "Both edges": the starred lines, as rows of one statement.
-use Prim.Native.Nat.{ℕ, zero, suc, _+_}
+use Prim.Native.Nat.{ℕ}
 use mathlib.Core.Path.{_≡_}
 use mathlib.Core.Bool.{true}
 use mathlib.Core.Option.{Option, none, some}
-use Prim.Native.String.{String}
 use mathlib.Core.List.{List, [], _∷_, _++_, map}
-use lib.ListN.{length, take}
+use lib.ListN.{take}
 use lib.Ieee.{Float, binary64, ofBits}
-use Rattle.format.specs.Bytes.{ascii, leBytes}
+use Rattle.format.specs.Build.{u32, f64, levelOf}
 use Rattle.format.specs.Answer.{Answer, given, refused}
 use Rattle.format.specs.Trees.{read, entered, at, fault}
 use Rattle.format.specs.Values.{list, flag, valueAt}
@@ -33,38 +32,10 @@ scenesFour = record { axis = P; count = 4 }
 abbrev pub shaped : ℕ → Attributes
 shaped row = record { width = 2; stride = row; height = 2; components = 3; bits = 16 }
 
--- ASCII characters as units, with a zero unit behind them
-abbrev wide : List ℕ → List ℕ
-wide [] = 0 ∷ 0 ∷ []
-wide (c ∷ cs) = c ∷ 0 ∷ wide cs
-
--- a record of type k, with a name in ASCII, and its value
-abbrev rec : ℕ → List ℕ → List ℕ → List ℕ
-rec k name v = k ∷ suc (length name) ∷ wide name ++ v
-
--- a level of n records
-abbrev levelOf : ℕ → List ℕ → List ℕ → List ℕ
-levelOf n name kids =
-    let head = 11 ∷ suc (length name) ∷ wide name ++ leBytes 4 n in
-    head ++ leBytes 8 (length head + 8 + length kids) ++ kids ++ eights n
-  where
-    eights : ℕ → List ℕ
-    eights zero = []
-    eights (suc n) = 0 ∷ 0 ∷ 0 ∷ 0 ∷ 0 ∷ 0 ∷ 0 ∷ 0 ∷ eights n
-
-abbrev u32 : String → ℕ → List ℕ
-unfolding ascii
-u32 name n = rec 3 (ascii name) (leBytes 4 n)
-
-abbrev f64 : String → ℕ → List ℕ
-unfolding ascii
-f64 name bits = rec 6 (ascii name) (leBytes 8 bits)
-
 -- attributes of `shaped row`, with these bits of the double eCompression
 unfoldable pub attributesData : ℕ → ℕ → List ℕ
-unfolding ascii
 attributesData row bits =
-    levelOf 6 (ascii "SLxImageAttributes")
+    levelOf 6 "SLxImageAttributes"
     (u32 "uiWidth" 2 ++ u32 "uiWidthBytes" row ++ u32 "uiHeight" 2 ++ u32 "uiComp" 3 ++ u32 "uiBpcInMemory" 16 ++ f64 "eCompression" bits)
 
 abbrev pub nameUnitsOf : Entry → ℕ
@@ -75,18 +46,16 @@ attributesOf row bits = let d = attributesData row bits in attributes d (read d 
 
 -- an experiment whose only level is of type 4, with this uiCount, dZHigh 10 and dZLow -10
 unfoldable pub stackData : ℕ → List ℕ
-unfolding ascii
 stackData n =
-    levelOf 2 (ascii "SLxExperiment")
-    (u32 "eType" 4 ++ levelOf 3 (ascii "uLoopPars") (u32 "uiCount" n ++ f64 "dZHigh" 0x4024000000000000 ++ f64 "dZLow" 0xC024000000000000))
+    levelOf 2 "SLxExperiment"
+    (u32 "eType" 4 ++ levelOf 3 "uLoopPars" (u32 "uiCount" n ++ f64 "dZHigh" 0x4024000000000000 ++ f64 "dZLow" 0xC024000000000000))
 
 unfoldable pub stepOf : ℕ → Option Float
 stepOf n = let d = stackData n in zStep 64 d (read d 0 .entries) 0
 
 -- a plane of this colour
 unfoldable pub planeData : ℕ → List ℕ
-unfolding ascii
-planeData n = levelOf 1 (ascii "a") (u32 "uiColor" n)
+planeData n = levelOf 1 "a" (u32 "uiColor" n)
 
 unfoldable pub planeOf : ℕ → Channel
 planeOf n = let d = planeData n in channelOf d (read d 0 .entries) 0
