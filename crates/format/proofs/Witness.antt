@@ -7,7 +7,7 @@ use lib.ListN.{replicate}
 use lib.Ieee.{binary32, ofBits, toSigned, round, lt, ne}
 use Rattle.format.specs.Answer.{given, refused, andThen, refuseIf, orRefuse}
 use Rattle.format.specs.Bytes.{ascii, leBytes, leAt, same, part}
-use Rattle.format.specs.Build.{flag, u32, f64, text, levelOf, chunk, fileOf}
+use Rattle.format.specs.Build.{eights, flag, u32, f64, text, levelOf, chunk, fileOf}
 use Rattle.format.specs.Chunks.{chunkData}
 use Rattle.format.specs.Map.{mapName, mapEntries, offsetOf, endMark}
 use Rattle.format.specs.Text.{units, lossy}
@@ -74,7 +74,7 @@ abbrev row : ℕ → ℕ → List ℕ
 row n k = k ∷ n ∷ (k + 1) ∷ n ∷ (k + 2) ∷ n ∷ (k + 3) ∷ n ∷ 255 ∷ 255 ∷ []
 
 abbrev frame : ℕ → List ℕ
-frame n = 0 ∷ 0 ∷ 0 ∷ 0 ∷ 0 ∷ 0 ∷ 0 ∷ 0 ∷ row n 0 ++ row n 4
+frame n = eights 1 ++ row n 0 ++ row n 4
 
 -- The frames stand in the file from the last to the first. An older frame 0 has the same name as the last chunk, which the map names last.
 unfoldable pub pair : List ℕ
