@@ -1,15 +1,14 @@
 -- "Both edges": the starred lines, as rows of one statement.
-use Prim.Native.Nat.{ℕ, zero, suc, _+_}
+use Prim.Native.Nat.{ℕ}
 use mathlib.Core.Path.{_≡_}
 use mathlib.Core.Bool.{true}
 use mathlib.Core.Option.{Option, none, some}
-use Prim.Native.String.{String}
 use mathlib.Core.List.{List, [], _∷_, _++_, map}
 use lib.ListN.{length, take}
 use lib.Ieee.{Float, binary64, ofBits}
-use Rattle.format.specs.Bytes.{ascii, leBytes}
-use Rattle.format.specs.Answer.{Answer, given, refused}
-use Rattle.format.specs.Trees.{read, entered, at, fault}
+use Rattle.format.specs.Build.{u32, f64, levelOf}
+use Rattle.format.specs.Answer.{Answer, given, refused, andThen}
+use Rattle.format.specs.Trees.{read, entered, at, fault, treeEntries}
 use Rattle.format.specs.Values.{list, flag, valueAt}
 use Rattle.format.specs.declared.Attributes.{Attributes}
 use Rattle.format.specs.Attributes.{attributes}
@@ -33,63 +32,37 @@ scenesFour = record { axis = P; count = 4 }
 abbrev pub shaped : ℕ → Attributes
 shaped row = record { width = 2; stride = row; height = 2; components = 3; bits = 16 }
 
--- ASCII characters as units, with a zero unit behind them
-abbrev wide : List ℕ → List ℕ
-wide [] = 0 ∷ 0 ∷ []
-wide (c ∷ cs) = c ∷ 0 ∷ wide cs
-
--- a record of type k, with a name in ASCII, and its value
-abbrev rec : ℕ → List ℕ → List ℕ → List ℕ
-rec k name v = k ∷ suc (length name) ∷ wide name ++ v
-
--- a level of n records
-abbrev levelOf : ℕ → List ℕ → List ℕ → List ℕ
-levelOf n name kids =
-    let head = 11 ∷ suc (length name) ∷ wide name ++ leBytes 4 n in
-    head ++ leBytes 8 (length head + 8 + length kids) ++ kids ++ eights n
-  where
-    eights : ℕ → List ℕ
-    eights zero = []
-    eights (suc n) = 0 ∷ 0 ∷ 0 ∷ 0 ∷ 0 ∷ 0 ∷ 0 ∷ 0 ∷ eights n
-
-abbrev u32 : String → ℕ → List ℕ
-unfolding ascii
-u32 name n = rec 3 (ascii name) (leBytes 4 n)
-
-abbrev f64 : String → ℕ → List ℕ
-unfolding ascii
-f64 name bits = rec 6 (ascii name) (leBytes 8 bits)
+-- a tree's reading ends well, at the data's end
+abbrev pub Whole : List ℕ → Type 0
+Whole d = read d 0 .stop ≡ at (length d)
 
 -- attributes of `shaped row`, with these bits of the double eCompression
 unfoldable pub attributesData : ℕ → ℕ → List ℕ
-unfolding ascii
 attributesData row bits =
-    levelOf 6 (ascii "SLxImageAttributes")
+    levelOf 6 "SLxImageAttributes"
     (u32 "uiWidth" 2 ++ u32 "uiWidthBytes" row ++ u32 "uiHeight" 2 ++ u32 "uiComp" 3 ++ u32 "uiBpcInMemory" 16 ++ f64 "eCompression" bits)
 
 abbrev pub nameUnitsOf : Entry → ℕ
 nameUnitsOf e = e .units
 
 unfoldable pub attributesOf : ℕ → ℕ → Answer Attributes
-attributesOf row bits = let d = attributesData row bits in attributes d (read d 0 .entries)
+attributesOf row bits = let d = attributesData row bits in andThen (treeEntries (read d 0)) (attributes d)
 
 -- an experiment whose only level is of type 4, with this uiCount, dZHigh 10 and dZLow -10
 unfoldable pub stackData : ℕ → List ℕ
-unfolding ascii
 stackData n =
-    levelOf 2 (ascii "SLxExperiment")
-    (u32 "eType" 4 ++ levelOf 3 (ascii "uLoopPars") (u32 "uiCount" n ++ f64 "dZHigh" 0x4024000000000000 ++ f64 "dZLow" 0xC024000000000000))
+    levelOf 2 "SLxExperiment"
+    (u32 "eType" 4 ++ levelOf 3 "uLoopPars" (u32 "uiCount" n ++ f64 "dZHigh" 0x4024000000000000 ++ f64 "dZLow" 0xC024000000000000))
 
-unfoldable pub stepOf : ℕ → Option Float
-stepOf n = let d = stackData n in zStep 64 d (read d 0 .entries) 0
+unfoldable pub stepOf : ℕ → Answer (Option Float)
+stepOf n = let d = stackData n in andThen (treeEntries (read d 0)) λ es. given (zStep 64 d es 0)
 
 -- a plane of this colour
 unfoldable pub planeData : ℕ → List ℕ
-unfolding ascii
-planeData n = levelOf 1 (ascii "a") (u32 "uiColor" n)
+planeData n = levelOf 1 "a" (u32 "uiColor" n)
 
-unfoldable pub planeOf : ℕ → Channel
-planeOf n = let d = planeData n in channelOf d (read d 0 .entries) 0
+unfoldable pub planeOf : ℕ → Answer Channel
+planeOf n = let d = planeData n in andThen (treeEntries (read d 0)) λ es. given (channelOf d es 0)
 
 unfoldable pub u32Record : List ℕ
 u32Record = 0x03 ∷ 0x02 ∷ 0x61 ∷ 0x00 ∷ 0x00 ∷ 0x00 ∷ 0x05 ∷ 0x00 ∷ 0x00 ∷ 0x00 ∷ []
@@ -115,11 +88,16 @@ pub record Starred : Type 0 where
   pub level-17 : valueAt (oneTrue 17) (read (oneTrue 17) 0 .entries) 0 ≡ list (1 ∷ [])
   pub level-17-one : valueAt (oneTrue 17) (read (oneTrue 17) 0 .entries) 1 ≡ flag true
   pub level-17-unnamed : map nameUnitsOf (read (oneTrue 17) 0 .entries) ≡ 0 ∷ 0 ∷ []
+  pub level-17-end : read (oneTrue 17) 0 .stop ≡ at 25
   pub level-13 : read (oneTrue 13) 0 .stop ≡ fault 10
   -- "colour 0x00332211: 0x11, 0x22, 0x33. eCompression 2.9 passes, 1.9 gives 12."
-  pub colour : planeOf 0x00332211 ≡ record { named = 0; name = 0; units = 0; colored = 1; red = 0x11; green = 0x22; blue = 0x33 }
+  pub colour : planeOf 0x00332211 ≡ given (record { named = 0; name = 0; units = 0; colored = 1; red = 0x11; green = 0x22; blue = 0x33 })
   pub compression-2·9 : attributesOf 12 0x4007333333333333 ≡ given (shaped 12)
   pub compression-1·9 : attributesOf 12 0x3FFE666666666666 ≡ refused 12
   -- "dZHigh 10, dZLow −10, uiCount 11: 2.0. uiCount 1: none."
-  pub step-11 : stepOf 11 ≡ some (ofBits binary64 0x4000000000000000)
-  pub step-1 : stepOf 1 ≡ none
+  pub step-11 : stepOf 11 ≡ given (some (ofBits binary64 0x4000000000000000))
+  pub step-1 : stepOf 1 ≡ given none
+  -- the trees of the last three lines and of the row bytes are read to their ends
+  pub attributes-whole : (row bits : ℕ) → Whole (attributesData row bits)
+  pub plane-whole : (n : ℕ) → Whole (planeData n)
+  pub stack-whole : (n : ℕ) → Whole (stackData n)

@@ -28,7 +28,8 @@ pub mod Calls
 pub mod Grammar
 -- "Why a file is turned away", as propositions
 pub mod Refused
--- "Both edges": the starred lines
+-- files from their parts, and "Both edges": the starred lines
+pub mod Build
 pub mod Edges
 -- the customer's first and third demand, as statements
 pub mod Demands
