@@ -22,12 +22,12 @@ use Rattle.format.specs.Refusals as why
 use Rattle.format.specs.declared.Entry.{Entry}
 use Rattle.format.specs.declared.Attributes.{Attributes}
 
-below-some : (o : Option ℕ) (n : ℕ) → below32 o ≡ some n → (o ≡ some n) × (n < 2 ^ 32)
+pub below-some : (o : Option ℕ) (n : ℕ) → below32 o ≡ some n → (o ≡ some n) × (n < 2 ^ 32)
 unfolding below32
 below-some none n e = absurd (none≢some e)
 below-some (some m) n e = let (q, z) = cond-some (ltb m (2 ^ 32)) m n e in (ap some z, rw (← z) (ltb-true m (2 ^ 32) q))
 
-some-below : (o : Option ℕ) (n : ℕ) → o ≡ some n → n < 2 ^ 32 → below32 o ≡ some n
+pub some-below : (o : Option ℕ) (n : ℕ) → o ≡ some n → n < 2 ^ 32 → below32 o ≡ some n
 unfolding below32
 some-below o n e h = rw (e, lt-ltb n (2 ^ 32) h) refl
 

@@ -32,7 +32,8 @@ use Rattle.format.specs.declared.Entry.{Entry}
 use Rattle.format.specs.declared.Channel.{Channel}
 use Rattle.format.specs.declared.Summary.{Summary}
 
-abbrev planesName : List ℕ
+-- the name of the chunk that the planes are in
+abbrev pub planesName : List ℕ
 planesName = ascii "ImageMetadataSeqLV|0!"
 
 module _ (s : List ℕ) (u : Summary) (room n : ℕ) where
@@ -74,7 +75,7 @@ module _ (s : List ℕ) (u : Summary) (room n : ℕ) where
           by true h = stops (table (says-table s u planesName room (decides-holds (named-decides s u planesName room es e) (q ∙ ap refused (eqb-true _ _ h)))))
           by false h = goes (λ w. let z = sym q ∙ short w in let e₂ : k ≡ why.table = cc in eqb-false _ _ h e₂) gives
 
-  channels-decides : Decides R channelsOrder (recordsOf s u room n)
+  pub channels-decides : Decides R channelsOrder (recordsOf s u room n)
   unfolding recordsOf
   channels-decides =
       decides-if (badSummary s u) why.summary _ (λ q. summary (unsound s u q)) (λ q w. says-summary w (sound-read s u q)) λ q₁.

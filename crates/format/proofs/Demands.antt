@@ -23,7 +23,8 @@ use Rattle.format.proofs.Names.{frame-number-unique}
 use Rattle.format.proofs.Triples.{seq-below}
 use Rattle.format.proofs.Planes.{plane-sample, plane-refused, plane-number, plane-accepted}
 use Rattle.format.proofs.TreeCalls.{tree-table, tree-refused, tree-number}
-use Rattle.format.proofs.ChannelCalls.{channels-table, channels-refused, channels-number}
+use Rattle.format.proofs.ChannelCalls.{channels-table, channels-number}
+use Rattle.format.proofs.ChannelRecords.{channels-emptied, channels-records, recorded-once}
 use Rattle.format.proofs.Registers.{register-frames, register-refused, register-number}
 use Rattle.format.proofs.Suffices.{suffices}
 use Rattle.format.proofs.Trees.{read-passed}
@@ -78,7 +79,9 @@ first = record {
   tree-table = tree-table;
   channels-number = channels-number;
   channels-table = channels-table;
-  channels-refused = channels-refused;
+  channels-refused = channels-emptied;
+  channels-records = channels-records;
+  channels-once = recorded-once;
   register-number = register-number;
   register-refused = register-refused;
   register-frames = register-frames;

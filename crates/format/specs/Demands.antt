@@ -4,12 +4,11 @@ use Prim.Native.Nat.{ℕ, _/_, _≤_, _<_}
 use mathlib.Core.Path.{_≡_}
 use mathlib.Core.Logic.{_↔_}
 use mathlib.Core.List.{List}
-use lib.ListN.{length, replicate}
+use lib.ListN.{length}
 use Rattle.format.specs.Bytes.{zeros, over}
 use Rattle.format.specs.Chunks.{dataIn}
 use Rattle.format.specs.Trees.{roomIn, tableBytes}
 use Rattle.format.specs.Frames.{seqIndex, frames}
-use Rattle.format.specs.Channels.{emptyChannel}
 use Rattle.format.specs.Summary.{loopsOf, zeroSummary}
 use Rattle.format.specs.Calls.Open.{openCall}
 use Rattle.format.specs.Calls.Plane.{planeCall}
@@ -25,7 +24,7 @@ use Rattle.format.specs.Refused.Order.{First}
 use Rattle.format.specs.Refused.Summary.{Sound}
 use Rattle.format.specs.Refused.Plane.{Within, FrameData, PlaneRefusal, planeOrder, Copied}
 use Rattle.format.specs.Refused.Tree.{NameData, TreeRefusal, treeOrder}
-use Rattle.format.specs.Refused.Channels.{ChannelsRefusal, channelsOrder}
+use Rattle.format.specs.Refused.Channels.{ChannelsRefusal, channelsOrder, Recorded, Emptied}
 use Rattle.format.specs.Refused.Register.{RegisterRefusal, registerOrder, Registered}
 use Rattle.format.specs.declared.Range.{Range}
 use Rattle.format.specs.declared.Entry.{Entry}
@@ -61,7 +60,11 @@ pub record FirstDemand : Type 0 where
       → First (ChannelsRefusal file u (roomIn (length table)) (length row)) channelsOrder (channelsCall file u table row .number)
   pub channels-table : (file : List ℕ) (u : Summary) (table : List ℕ) (row : List Channel) → channelsCall file u table row .table ≡ zeros (length table)
   pub channels-refused : (file : List ℕ) (u : Summary) (table : List ℕ) (row : List Channel)
-      → Refuses (channelsCall file u table row .number) → channelsCall file u table row .row ≡ replicate (length row) emptyChannel
+      → Refuses (channelsCall file u table row .number) → Emptied row (channelsCall file u table row .row)
+  -- "one record per child level .. Cut or padded with empty ones", and no other row is what the rules say
+  pub channels-records : (file : List ℕ) (u : Summary) (table : List ℕ) (row : List Channel)
+      → channelsCall file u table row .number ≡ 0 → Recorded file u row (channelsCall file u table row .row)
+  pub channels-once : (file : List ℕ) (u : Summary) (row out out′ : List Channel) → Recorded file u row out → Recorded file u row out′ → out ≡ out′
   pub register-number : (file : List ℕ) (u : Summary) (buf : List ℕ) → First (RegisterRefusal file u buf) registerOrder (registerCall file u buf .number)
   pub register-refused : (file : List ℕ) (u : Summary) (buf : List ℕ) → Refuses (registerCall file u buf .number) → registerCall file u buf .buffer ≡ buf
   -- the register's records, and no more and no fewer of them than there are frames

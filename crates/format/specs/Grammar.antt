@@ -11,6 +11,7 @@ pub mod Numbers
 pub mod Attributes
 pub mod Loops
 pub mod Calibration
+pub mod Channels
 pub mod Frames
 pub mod File
 pub mod Table

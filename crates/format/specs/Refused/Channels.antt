@@ -1,13 +1,21 @@
--- The channels call: "20, 5, 19, 18".
-use Prim.Native.Nat.{ℕ, _<_}
+-- The channels call: "20, 5, 19, 18", and what it leaves in the row.
+use Prim.Native.Nat.{ℕ, _<_, _≤_}
+use mathlib.Core.Path.{_≡_}
+use mathlib.Core.Option.{some}
 use mathlib.Core.List.{List, [], _∷_}
+use lib.ListN.{length, getElem?}
 use Rattle.format.specs.Bytes.{ascii}
 use Rattle.format.specs.Map.{MapEntry}
 use Rattle.format.specs.Summary.{mapOf}
 use Rattle.format.specs.Grammar.Map.{MapOf}
+use Rattle.format.specs.Grammar.Trees.{Tree}
+use Rattle.format.specs.Grammar.Channels.{Empty, Planes}
 use Rattle.format.specs.Refused.Summary.{Sound}
-use Rattle.format.specs.Refused.Tree.{TableShort}
+use Rattle.format.specs.Refused.Tree.{NameData, TableShort}
 use Rattle.format.specs.Refusals as why
+use Rattle.format.specs.declared.Range.{Range}
+use Rattle.format.specs.declared.Entry.{Entry}
+use Rattle.format.specs.declared.Channel.{Channel}
 use Rattle.format.specs.declared.Summary.{Summary}
 
 -- when each refusal of the channels holds; the table has `room` whole entries, and the row n records
@@ -19,3 +27,25 @@ pub data ChannelsRefusal (s : List ℕ) (u : Summary) (room n : ℕ) : ℕ → T
 
 abbrev pub channelsOrder : List ℕ
 channelsOrder = why.summary ∷ why.map ∷ why.channelRow ∷ why.table ∷ []
+
+-- the records of the planes of the summary's file: "a missing or failing chunk or tree .. gives only empty ones"
+pub data RecordsOf (s : List ℕ) (u : Summary) : List Channel → Type 0 where
+  stated : {r : Range} {es : List Entry} {cs : List Channel} → NameData s u (ascii "ImageMetadataSeqLV|0!") r → Tree s r es → Planes s es cs
+      → RecordsOf s u cs
+  unstated : ((r : Range) (es : List Entry) → NameData s u (ascii "ImageMetadataSeqLV|0!") r → Tree s r es → ⊥) → RecordsOf s u []
+
+-- record i of a row, "one for each component": "Cut or padded with empty ones", "surplus records zero"
+pub data RecordAt (s : List ℕ) (u : Summary) (i : ℕ) (c : Channel) : Type 0 where
+  of-plane : {cs : List Channel} → RecordsOf s u cs → i < u .components → getElem? cs i ≡ some c → RecordAt s u i c
+  padded : {cs : List Channel} → RecordsOf s u cs → length cs ≤ i → Empty c → RecordAt s u i c
+  surplus : u .components ≤ i → Empty c → RecordAt s u i c
+
+-- `out` is what an accepted call leaves in the row
+pub record Recorded (s : List ℕ) (u : Summary) (row out : List Channel) : Type 0 where
+  pub each : (i : ℕ) (c : Channel) → getElem? out i ≡ some c → RecordAt s u i c
+  pub length-kept : length out ≡ length row
+
+-- what a refused one leaves: empty records
+pub record Emptied (row out : List Channel) : Type 0 where
+  pub each : (i : ℕ) (c : Channel) → getElem? out i ≡ some c → Empty c
+  pub length-kept : length out ≡ length row
