@@ -1,5 +1,5 @@
 -- A tree's entries have depths: a level's is below 64, and a record's is above its parent's. Assumes nothing.
-use Prim.Native.Nat.{ℕ, zero, suc, _+_, _-_, _*_, _≤_, _<_}
+use Prim.Native.Nat.{ℕ, zero, suc, _+_, _*_, _≤_, _<_}
 use mathlib.Core.Path.{_≡_, refl, sym, _∙_}
 use mathlib.Core.Bool.{cond}
 use mathlib.Core.Option.{some}
@@ -13,7 +13,7 @@ use Rattle.format.proofs.Leaves.{Typed}
 use Rattle.format.proofs.Trees.{plain-of}
 use Rattle.format.specs.Bytes.{part}
 use Rattle.format.specs.declared.Range.{Range}
-use Rattle.format.specs.Trees.{entryOf, mostDepth}
+use Rattle.format.specs.Trees.{mostDepth}
 use Rattle.format.specs.Grammar.Trees.{valueStart, Plain, fixed, text-ended, text-cut, bytes, bool, i32, u32, i64, u64, f64, pointer, countAt, kidsFrom, kidsTo, levelTo, Records, counted, quiet, plain, nested, of-level, Tree}
 use Rattle.format.specs.declared.Entry.{Entry}
 
@@ -159,15 +159,15 @@ module _ (d : List ℕ) (base : ℕ) where
       → Above D parent used here → Depthed D used es
   depths left parent count used i e es p counted D here hl a = record { E = D; kept = λ x h. refl; ranked = nil }
   depths left parent count used i e es p (quiet h) D here hl a = record { E = D; kept = λ x h. refl; ranked = nil }
-  depths left parent count used i e es p (plain {count = n} {k = k} {from} {len} {p = q} {es = fs} h v r) D here hl a =
-      let en = entryOf d base parent i from len in
-      plain-depths D parent used here en fs (plain-typed d e (valueStart d i) k from len q en v (h .kind) refl) a (λ z. plain-kind d e (valueStart d i) k from len q v (sym (h .kind) ∙ z)) refl
+  depths left parent count used i e es p (plain {count = n} {k = k} {from} {len} {p = q} {en = en} {es = fs} h v x r) D here hl a =
+      let own : en .kind ≡ k = x .kind ∙ h .kind in
+      plain-depths D parent used here en fs (plain-typed d e (valueStart d i) k from len q en v own (x .size)) a
+      (λ z. plain-kind d e (valueStart d i) k from len q v (sym own ∙ z)) (x .parent-is)
       (depths left parent n (used + 1) q e fs p r (put D used here) here hl (put-above D parent used here a))
-  depths left parent count used i e es p (nested {left = m} {count = n} {p = q} {ks = ks} {es = fs} l kr h r) D here hl a =
+  depths left parent count used i e es p (nested {left = m} {count = n} {p = q} {en = en} {ks = ks} {es = fs} l y kr h r) D here hl a =
       let x = depths m (suc used) (countAt d i) (suc used) (kidsFrom d i) (kidsTo d i) ks q kr (put D used here) (suc here) (omega arith) (kids-above D used here) in
       let b = above-more (put D used here) (x .E) parent (used + 1) (used + suc (length ks)) here (put-above D parent used here a) (λ z j. x .kept z (omega arith)) (omega arith) in
-      let en = entryOf d base parent i (kidsFrom d i) (kidsTo d i - kidsFrom d i) in
-      level-depths D parent used here en ks fs (level-typed en (l .head .kind)) a (omega arith) refl x
+      level-depths D parent used here en ks fs (level-typed en (y .kind ∙ l .head .kind)) a (omega arith) (y .parent-is) x
       (depths left parent n (used + suc (length ks)) (levelTo d i) e fs p r (x .E) here hl b)
 
 -- the depths of a tree's entries

@@ -1,5 +1,5 @@
 -- A tree's entries are a forest in file order: each comes after its parent, and a level's children stand together. Assumes nothing.
-use Prim.Native.Nat.{ℕ, zero, suc, _+_, _-_, _≤_, _<_}
+use Prim.Native.Nat.{ℕ, zero, suc, _+_, _≤_, _<_}
 use mathlib.Core.Path.{_≡_, refl, ap, _∙_}
 use mathlib.Core.Logic.{_⊎_, inl, inr}
 use mathlib.Core.Option.{some}
@@ -9,7 +9,6 @@ use native.Mathlib.Decide.{decLt}
 use lib.ListN.{length, getElem?}
 use Rattle.format.proofs.Answers.{none≢some}
 use Rattle.format.specs.Grammar.Trees.{countAt, kidsFrom, kidsTo, levelTo, Records, counted, quiet, plain, nested, Tree}
-use Rattle.format.specs.Trees.{entryOf}
 use Rattle.format.specs.declared.Entry.{Entry}
 use Rattle.format.specs.declared.Range.{Range}
 
@@ -21,12 +20,12 @@ pub data Forest : ℕ → ℕ → List Entry → Type 0 where
 records-forest : (d : List ℕ) (base left parent count used i e : ℕ) (es : List Entry) (p : ℕ) → Records d base left parent count used i e es p → Forest parent used es
 records-forest d base left parent count used i e es p counted = bare
 records-forest d base left parent count used i e es p (quiet h) = bare
-records-forest d base left parent count used i e es p (plain {count = n} {from = from} {len} {p = q} {es = fs} h v r) =
+records-forest d base left parent count used i e es p (plain {count = n} {p = q} {en = en} {es = fs} h v x r) =
     let z : used + 1 ≡ suc used + length {A = Entry} [] = omega arith in
-    tree (entryOf d base parent i from len) [] fs refl bare (rw z at (records-forest d base left parent n (used + 1) q e fs p r))
-records-forest d base left parent count used i e es p (nested {left = m} {count = n} {p = q} {ks = ks} {es = fs} l kr h r) =
+    tree en [] fs (x .parent-is) bare (rw z at (records-forest d base left parent n (used + 1) q e fs p r))
+records-forest d base left parent count used i e es p (nested {left = m} {count = n} {p = q} {en = en} {ks = ks} {es = fs} l x kr h r) =
     let z : used + suc (length ks) ≡ suc used + length ks = omega arith in
-    tree (entryOf d base parent i (kidsFrom d i) (kidsTo d i - kidsFrom d i)) ks fs refl
+    tree en ks fs (x .parent-is)
     (records-forest d base m (suc used) (countAt d i) (suc used) (kidsFrom d i) (kidsTo d i) ks q kr)
     (rw z at (records-forest d base left parent n (used + suc (length ks)) (levelTo d i) e fs p r))
 

@@ -16,7 +16,7 @@ use Rattle.format.specs.declared.Range.{Range}
 use Rattle.format.specs.Trees.{Stop, at, fault, Read, ends, entered, pick, stopIf, follow, then, fixedValue, textUnits, textValue, bytesValue, levelEnd, Children, childrenOr9, levelValue, fixedLen, value, known, ChildrenAt, entryOf, recordAt, records, childrenAt, read, treeIn, mostItems, mostDepth, packedType}
 use Rattle.format.specs.Grammar.Lists.{In}
 use Rattle.format.specs.Grammar.Lists.{here as first, behind as further}
-use Rattle.format.specs.Grammar.Trees.{valueStart, Head, Fixed, bool, i32, u32, i64, u64, f64, pointer, Units, Plain, fixed, text-ended, text-cut, bytes, countAt, kidsFrom, kidsTo, levelTo, Level, Records, counted, quiet, plain, nested, Kind, of-value, of-level, Judged, Wrong, packed-type, type-0, type-10, name-cut, unknown, number-cut, bytes-cut, count-cut, items-over, length-cut, length-under, kids-cut, too-deep, Faults, here, behind-plain, behind-level, inside, skip-cut, Passes, none-yet, this, this-and-more, this-and-inside, level-and-more, PassedIn, Tree, Faulty}
+use Rattle.format.specs.Grammar.Trees.{valueStart, Head, Fixed, bool, i32, u32, i64, u64, f64, pointer, Units, Plain, fixed, text-ended, text-cut, bytes, countAt, kidsFrom, kidsTo, levelTo, Level, NameUnits, unnamed, but-last, EntryOf, Records, counted, quiet, plain, nested, Kind, of-value, of-level, Judged, Wrong, packed-type, type-0, type-10, name-cut, unknown, number-cut, bytes-cut, count-cut, items-over, length-cut, length-under, kids-cut, too-deep, Faults, here, behind-plain, behind-level, inside, skip-cut, Passes, none-yet, this, this-and-more, this-and-inside, level-and-more, PassedIn, Tree, Faulty}
 use Rattle.format.specs.Refusals as why
 use Rattle.format.specs.declared.Entry.{Entry}
 
@@ -178,6 +178,26 @@ unknown-false k u = go (known k) refl
     go true q = absurd (u (known-kind k q))
     go false q = refl
 
+-- ---- entries
+
+units-read : (n : ℕ) → NameUnits n (n - 1)
+units-read zero = unnamed
+units-read (suc n) = let z : suc n - 1 ≡ n = omega arith in rw z but-last
+
+read-units : {n m : ℕ} → NameUnits n m → m ≡ n - 1
+read-units unnamed = refl
+read-units (but-last {n}) = omega arith
+
+module _ (d : List ℕ) (base parent i from len : ℕ) where
+  -- the entry that is computed is the grammar's, and no other is
+  pub entry-made : EntryOf d base parent i from len (entryOf d base parent i from len)
+  entry-made = record { kind = refl; name = refl; units = units-read (getD d (i + 1) 0); value = refl; size = refl; parent-is = refl }
+
+  pub entry-is : (en : Entry) → EntryOf d base parent i from len en → en ≡ entryOf d base parent i from len
+  entry-is en x =
+      let u = read-units (x .units) in
+      λ k. record { kind = x .kind k; name = x .name k; units = u k; value = x .value k; size = x .size k; parent = x .parent-is k }
+
 module _ (d : List ℕ) (base : ℕ) where
   -- a record whose head passes is its value
   head-read : (c : ChildrenAt) (parent used i e k : ℕ) (y : Read) → Head d i e k → Known k
@@ -239,17 +259,19 @@ module _ (d : List ℕ) (base : ℕ) where
   unfolding records childrenAt
   records-read left parent count used i e es p counted = refl
   records-read left parent count used i e es p (quiet h) = picked _ _ (ltb e (i + 2)) _ (lt-ltb _ _ h) refl
-  records-read left parent count used i e es p (plain {count = n} {k = k} {from} {len} {p = q} {es = fs} h v r) =
-      passed _ _ (ltb e (i + 2)) _ (le-ltb e (i + 2) (omega (arith, h .name-within)))
+  records-read left parent count used i e es p (plain {count = n} {k = k} {from} {len} {p = q} {en = en} {es = fs} h v x r) =
+      rw (entry-is d base parent i from len en x)
+      (passed _ _ (ltb e (i + 2)) _ (le-ltb e (i + 2) (omega (arith, h .name-within)))
       (then-read (recordAt d base (childrenAt left d base) parent used i e) _ (entryOf d base parent i from len ∷ []) fs q (at p)
-      (plain-one left parent used i e k from len q h v) (records-read left parent n (used + 1) q e fs p r))
-  records-read left parent count used i e es p (nested {left = m} {count = n} {p = q} {ks = ks} {es = fs} l kr h r) =
-      passed _ _ (ltb e (i + 2)) _ (le-ltb e (i + 2) (omega (arith, l .head .name-within)))
+      (plain-one left parent used i e k from len q h v) (records-read left parent n (used + 1) q e fs p r)))
+  records-read left parent count used i e es p (nested {left = m} {count = n} {p = q} {en = en} {ks = ks} {es = fs} l x kr h r) =
+      rw (entry-is d base parent i (kidsFrom d i) (kidsTo d i - kidsFrom d i) en x)
+      (passed _ _ (ltb e (i + 2)) _ (le-ltb e (i + 2) (omega (arith, l .head .name-within)))
       (then-read (recordAt d base (childrenAt left d base) parent used i e) _ (entryOf d base parent i (kidsFrom d i) (kidsTo d i - kidsFrom d i) ∷ ks) fs (levelTo d i) (at p)
       (level-one m parent used i e l
       ∙ kids-read (kidsOf m used) (countAt d i) (kidsFrom d i) (kidsTo d i) (entryOf d base parent i) e ks q
       (records-read m (suc used) (countAt d i) (suc used) (kidsFrom d i) (kidsTo d i) ks q kr) h)
-      (records-read left parent n (used + suc (length ks)) (levelTo d i) e fs p r))
+      (records-read left parent n (used + suc (length ks)) (levelTo d i) e fs p r)))
 
   -- ---- faults
   then-stop : (r : Read) (k : ℕ → ℕ → Read) (es : List Entry) (p : ℕ) (t : Stop) → r ≡ record { entries = es; stop = at p } → k (length es) p .stop ≡ t → then r k .stop ≡ t
@@ -754,8 +776,8 @@ module _ (d : List ℕ) (base : ℕ) where
   -- one record, and the others
   join : (left parent count used i e : ℕ) (es fs : List Entry) (p q : ℕ) → One parent used i e left es p → Records d base left parent count (used + length es) p e fs q
       → Records d base left parent (suc count) used i e (es ++ fs) q
-  join left parent count used i e es fs p q (one-plain h v) r = plain h v r
-  join left parent count used i e es fs p q (one-level l k h) r = nested l k h r
+  join left parent count used i e es fs p q (one-plain {from = from} {len} h v) r = plain h v (entry-made d base parent i from len) r
+  join left parent count used i e es fs p q (one-level l k h) r = nested l (entry-made d base parent i (kidsFrom d i) (kidsTo d i - kidsFrom d i)) k h r
 
   join-fault : (left parent count used i e n : ℕ) (es : List Entry) (p : ℕ) → One parent used i e left es p → Faults d base left parent count (used + length es) p e n
       → Faults d base left parent (suc count) used i e n

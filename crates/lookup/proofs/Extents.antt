@@ -6,6 +6,7 @@ use native.Mathlib.Omega.{arith}
 use lib.ListN.{length, length-append}
 use Rattle.format.specs.Grammar.Trees.{valueStart, Head, Fixed, bool, i32, u32, i64, u64, f64, pointer, Plain, fixed, text-ended, text-cut, bytes, countAt, kidsFrom, kidsTo, levelTo, Records, counted, quiet, plain, nested}
 use Rattle.format.specs.Trees.{fixedLen, entryOf}
+use Rattle.format.proofs.Trees.{entry-is}
 use Rattle.format.specs.declared.Entry.{Entry}
 use Rattle.lookup.specs.Table.{Lies}
 
@@ -68,14 +69,15 @@ module _ (d : List ℕ) (base n m : ℕ) (within : base + length d ≤ n) where
       → e ≤ length d → parent ≤ m → used + length es ≤ m → AllEntered n m es
   records-entered left parent count used i e es p counted l q s = tt
   records-entered left parent count used i e es p (quiet h) l q s = tt
-  records-entered left parent count used i e es p (plain {count = c} {k = k} {from} {len} {p = x} {es = fs} h v r) l q s = (
-    head-entered parent i e k from len h l q (plain-ends d e (valueStart d i) k from len x v l),
+  records-entered left parent count used i e es p (plain {count = c} {k = k} {from} {len} {p = x} {en = en} {es = fs} h v y r) l q s = (
+    rw (entry-is d base parent i from len en y) (head-entered parent i e k from len h l q (plain-ends d e (valueStart d i) k from len x v l)),
     records-entered left parent c (used + 1) x e fs p r l q (omega arith),
   )
-  records-entered left parent count used i e es p (nested {left = left′} {count = c} {p = x} {ks = ks} {es = fs} v kr h r) l q s =
+  records-entered left parent count used i e es p (nested {left = left′} {count = c} {p = x} {en = en} {ks = ks} {es = fs} v y kr h r) l q s =
       let t = simp length-append at s in (
-        head-entered parent i e 11 (kidsFrom d i) (kidsTo d i - kidsFrom d i) (v .head) l q
-            (record { kind = omega arith; value = omega (arith, v .length-least, v .kids-within); fixed = λ a b c. absurd (c refl) }),
+        rw (entry-is d base parent i (kidsFrom d i) (kidsTo d i - kidsFrom d i) en y)
+            (head-entered parent i e 11 (kidsFrom d i) (kidsTo d i - kidsFrom d i) (v .head) l q
+            (record { kind = omega arith; value = omega (arith, v .length-least, v .kids-within); fixed = λ a b c. absurd (c refl) })),
         entered-append n m ks fs
             (records-entered left′ (suc used) (countAt d i) (suc used) (kidsFrom d i) (kidsTo d i) ks x kr (omega (arith, v .kids-within)) (omega arith) (omega arith))
             (records-entered left parent c (used + suc (length ks)) (levelTo d i) e fs p r l q (omega arith)),

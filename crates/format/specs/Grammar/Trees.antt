@@ -7,7 +7,7 @@ use Rattle.format.specs.Bytes.{leAt}
 use Rattle.format.specs.Refusals as why
 use Rattle.format.specs.Chunks.{dataIn}
 use Rattle.format.specs.declared.Range.{Range}
-use Rattle.format.specs.Trees.{entryOf, mostItems, mostDepth, packedType}
+use Rattle.format.specs.Trees.{mostItems, mostDepth, packedType}
 use Rattle.format.specs.declared.Entry.{Entry}
 
 -- where the value of the record at i begins: behind its type, its name's length and its name
@@ -62,22 +62,41 @@ pub record Level (d : List ℕ) (i e : ℕ) : Type 0 where
   pub length-least : kidsFrom d i ≤ kidsTo d i
   pub kids-within : kidsTo d i ≤ e
 
+-- ---- entries
+
+-- how many units of a name of so many are kept: "The name's last unit is dropped unchecked"
+pub data NameUnits : ℕ → ℕ → Type 0 where
+  unnamed : NameUnits 0 0
+  but-last : {n : ℕ} → NameUnits (suc n) n
+
+-- The entry of the record at i, whose value is the len bytes from `from` on. "Entries are six u64: type, name position, name units kept, value position .., value
+-- bytes .., parent entry plus one. Positions count from the file's start."
+pub record EntryOf (d : List ℕ) (base parent i from len : ℕ) (en : Entry) : Type 0 where
+  pub kind : en .kind ≡ getD d i 0
+  pub name : en .name ≡ base + i + 2
+  pub units : NameUnits (getD d (i + 1) 0) (en .units)
+  pub value : en .value ≡ base + from
+  pub size : en .size ≡ len
+  pub parent-is : en .parent ≡ parent
+
+-- ---- records
+
 -- `Records d base left parent count used i e es p`: from i on, in a level that ends at e, stand at most `count` records, with the entries
 -- es and the place p after them. `used` entries come before these, `parent` is their level's entry plus one, and `left` is how many levels
 -- may stand here one in another.
 pub data Records (d : List ℕ) (base : ℕ) : ℕ → ℕ → ℕ → ℕ → ℕ → ℕ → List Entry → ℕ → Type 0 where
   counted : {left parent used i e : ℕ} → Records d base left parent 0 used i e [] i
   quiet : {left parent count used i e : ℕ} → e < i + 2 → Records d base left parent (suc count) used i e [] i
-  plain : {left parent count used i e k from len p q : ℕ} {es : List Entry}
-      → Head d i e k → Plain d e (valueStart d i) k from len p
+  plain : {left parent count used i e k from len p q : ℕ} {en : Entry} {es : List Entry}
+      → Head d i e k → Plain d e (valueStart d i) k from len p → EntryOf d base parent i from len en
       → Records d base left parent count (used + 1) p e es q
-      → Records d base left parent (suc count) used i e (entryOf d base parent i from len ∷ es) q
-  nested : {left parent count used i e p q : ℕ} {ks es : List Entry}
-      → Level d i e
+      → Records d base left parent (suc count) used i e (en ∷ es) q
+  nested : {left parent count used i e p q : ℕ} {en : Entry} {ks es : List Entry}
+      → Level d i e → EntryOf d base parent i (kidsFrom d i) (kidsTo d i - kidsFrom d i) en
       → Records d base left (suc used) (countAt d i) (suc used) (kidsFrom d i) (kidsTo d i) ks p
       → levelTo d i ≤ e
       → Records d base (suc left) parent count (used + suc (length ks)) (levelTo d i) e es q
-      → Records d base (suc left) parent (suc count) used i e (entryOf d base parent i (kidsFrom d i) (kidsTo d i - kidsFrom d i) ∷ ks ++ es) q
+      → Records d base (suc left) parent (suc count) used i e (en ∷ ks ++ es) q
 
 -- bool, i32, u32, i64, u64, f64, pointer, text, bytes, level
 pub data Kind : ℕ → Type 0 where
