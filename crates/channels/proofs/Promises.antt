@@ -11,10 +11,12 @@ use Rattle.format.specs.Channels.{emptyChannel, fitted}
 use Rattle.format.specs.Calls.Channels.{recordsOf, rowBy, channelsCall}
 use Rattle.format.specs.Demands.{Refuses, None}
 use Rattle.format.specs.Refused.Order.{First}
-use Rattle.format.specs.Refused.Channels.{ChannelsRefusal, channelsOrder}
+use Rattle.format.specs.Refused.Channels.{ChannelsRefusal, channelsOrder, RecordAt, Recorded, Emptied}
+use Rattle.format.specs.Grammar.Channels.{Empty}
 use Rattle.format.specs.declared.Channel.{Channel}
 use Rattle.format.specs.declared.Summary.{Summary}
 use Rattle.format.proofs.ChannelCalls.{channels-number, channels-accepted, channels-refused}
+use Rattle.format.proofs.ChannelRecords.{is-empty, channels-record, channels-records, channels-emptied}
 use Rattle.channels.specs.Ahead.{ahead}
 use Rattle.channels.specs.Ready.{Ready}
 use Rattle.channels.specs.declared.Prepared.{Prepared}
@@ -46,9 +48,17 @@ module _ (s : List ℕ) (u : Summary) (bytes : List ℕ) (n : ℕ) where
   unfolding channelsCall
   accepted = rw length-replicate at (channels-accepted s u bytes (replicate n emptyChannel))
 
-  emptied : Refuses (numberOf answer) → rowBy n (u .components) answer ≡ replicate n emptyChannel
+  -- record i of the row
+  abbrev at-row : ℕ → Channel
+  at-row i = getD (rowBy n (u .components) answer) i emptyChannel
+
+  empty : (i : ℕ) → Refuses (numberOf answer) → Empty (at-row i)
   unfolding channelsCall
-  emptied = rw length-replicate at (channels-refused s u bytes (replicate n emptyChannel))
+  empty i f = rw ((rw length-replicate at (channels-refused s u bytes (replicate n emptyChannel))) f, blank n i) is-empty
+
+  recorded : (i : ℕ) → numberOf answer ≡ 0 → RecordAt s u i (at-row i)
+  unfolding channelsCall
+  recorded i e = (rw length-replicate at (channels-record s u bytes (replicate n emptyChannel))) e i
 
   -- ---- one record
 
@@ -56,7 +66,7 @@ module _ (s : List ℕ) (u : Summary) (bytes : List ℕ) (n : ℕ) where
   Promised i k c out =
       ((cs : List Channel) → length cs ≡ n → k ≡ channelsCall s u bytes cs .number)
       × (((cs : List Channel) → length cs ≡ n → c ≡ getD (channelsCall s u bytes cs .row) i emptyChannel)
-      × ((out ≡ zeros (length bytes)) × (First R channelsOrder k × (((k ≡ 0) ↔ None R) × (Refuses k → c ≡ emptyChannel)))))
+      × ((out ≡ zeros (length bytes)) × (First R channelsOrder k × (((k ≡ 0) ↔ None R) × ((Refuses k → Empty c) × (k ≡ 0 → RecordAt s u i c))))))
 
   pub one-record : {t : List ℕ} {p : Prepared} (i : ℕ) {k : ℕ} {c : Channel} {out : List ℕ} → Ready s t n (u .components) answer p → k ≡ p .number
       → c ≡ getD (fitted n (ahead s t (p .planes))) i emptyChannel → out ≡ zeros (length bytes) → Promised i k c out
@@ -68,7 +78,7 @@ module _ (s : List ℕ) (u : Summary) (bytes : List ℕ) (n : ℕ) where
         z,
         (
           rw x first,
-          (rw x accepted, λ f. q ∙ ap (λ (l : List Channel). getD l i emptyChannel) (emptied (λ z. f (x ∙ z))) ∙ blank n i),
+          (rw x accepted, (λ f. rw q (empty i λ z. f (x ∙ z)), λ z. rw q (recorded i (sym x ∙ z)))),
         ),
       ),
     ),
@@ -90,7 +100,7 @@ module _ (s : List ℕ) (u : Summary) (bytes : List ℕ) (row : List Channel) wh
   abbrev pub Filled : ℕ → List ℕ → List Channel → Type 0
   Filled k ts zs =
       (k ≡ channelsCall s u bytes row .number) × (ts ≡ channelsCall s u bytes row .table) × (zs ≡ channelsCall s u bytes row .row) × (ts ≡ zeros (length bytes))
-      × First Whole channelsOrder k × ((k ≡ 0) ↔ None Whole) × (Refuses k → zs ≡ replicate (length row) emptyChannel)
+      × First Whole channelsOrder k × ((k ≡ 0) ↔ None Whole) × (Refuses k → Emptied row zs) × (k ≡ 0 → Recorded s u row zs)
 
   pub whole-row : {t : List ℕ} {p : Prepared} {ts : List ℕ} {zs : List Channel} → Ready s t (length row) (u .components) (recordsOf s u (roomIn (length bytes)) (length row)) p
       → ts ≡ zeros (length bytes) → zs ≡ fitted (length row) (ahead s t (p .planes)) → Filled (p .number) ts zs
@@ -102,5 +112,6 @@ module _ (s : List ℕ) (u : Summary) (bytes : List ℕ) (row : List Channel) wh
     z,
     rw (r .number) (channels-number s u bytes row),
     rw (r .number) (channels-accepted s u bytes row),
-    λ f. e ∙ sym (r .row) ∙ channels-refused s u bytes row (λ q. f (r .number ∙ q)),
+    λ f. rw (e ∙ sym (r .row)) (channels-emptied s u bytes row (λ q. f (r .number ∙ q))),
+    λ q. rw (e ∙ sym (r .row)) (channels-records s u bytes row (sym (r .number) ∙ q)),
   )

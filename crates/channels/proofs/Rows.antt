@@ -3,10 +3,11 @@ use Prim.Native.Nat.{ℕ, zero, suc, _+_, _-_, _≤_, _<_}
 use mathlib.Core.Path.{_≡_, refl, sym, ap, _∙_}
 use mathlib.Core.List.{List, [], _∷_, _++_, map}
 use native.Mathlib.Omega.{arith}
-use lib.ListN.{length, getD, take, replicate, length-append, length-replicate, List·getD-eq-default}
-use lib.Seq.{length-take-le, getD-take, ext-getD}
+use lib.ListN.{length, getD, take, replicate, List·getD-eq-default}
+use lib.Seq.{getD-take, ext-getD}
 use Rattle.format.specs.Channels.{emptyChannel, channelOf, fitted}
 use Rattle.format.specs.declared.Channel.{Channel}
+use Rattle.format.proofs.ChannelRecords.{fitted-length}
 use Rattle.lookup.specs.Table.{entryIn, entriesIn, Holds}
 use Rattle.lookup.specs.Walks.{Standing, restOf}
 use Rattle.lookup.specs.declared.Turn.{Turn}
@@ -37,10 +38,6 @@ padded-cut (suc m) (suc n) [] (suc k) = padded-cut m n [] k ∙ empty-cut m k
     empty-cut (suc m) k = refl
 padded-cut (suc m) n (c ∷ cs) zero = refl
 padded-cut (suc m) n (c ∷ cs) (suc k) = padded-cut m n cs k
-
-pub fitted-length : (n : ℕ) (cs : List Channel) → length (fitted n cs) ≡ n
-unfolding fitted
-fitted-length n cs = length-take-le n (cs ++ replicate n emptyChannel) (simp (length-append, length-replicate) (omega arith))
 
 -- record k of a row
 pub fitted-at : (n : ℕ) (cs : List Channel) (k : ℕ) → k < n → getD (fitted n cs) k emptyChannel ≡ getD cs k emptyChannel

@@ -17,13 +17,14 @@ use tree::Parsed;
 ghost use mathlib.Core.Path.{_≡_};
 ghost use mathlib.Core.Logic.{_↔_};
 ghost use mathlib.Core.List.{List};
-ghost use lib.ListN.{length, getD, replicate};
+ghost use lib.ListN.{length, getD};
 ghost use Rattle.format.specs.Bytes.{zeros};
 ghost use Rattle.format.specs.Trees.{roomIn};
 ghost use Rattle.format.specs.Channels.{emptyChannel, fitted};
 ghost use Rattle.format.specs.Calls.Channels.{recordsOf, recordsBy, channelsCall};
+ghost use Rattle.format.specs.Grammar.Channels.{Empty};
 ghost use Rattle.format.specs.Refused.Order.{First};
-ghost use Rattle.format.specs.Refused.Channels.{ChannelsRefusal, channelsOrder};
+ghost use Rattle.format.specs.Refused.Channels.{ChannelsRefusal, channelsOrder, RecordAt, Recorded, Emptied};
 ghost use Rattle.format.specs.Demands.{Refuses, None};
 ghost use Rattle.format.specs.declared.Channel.{Channel};
 ghost use Rattle.chunk.specs.Answers.{lookupOf};
@@ -138,7 +139,8 @@ pub fn channel(file: &[u8], u: Summary, table: &mut [u8], row: usize, i: usize) 
     ensures cleared { λ _. ⌜ now (table .exit) ≡ zeros (length (now (table .entry))) ⌝ }
     ensures first { λ r. ⌜ First (ChannelsRefusal (now (file .entry)) u (roomIn (length (now (table .entry)))) row) channelsOrder (r .number) ⌝ }
     ensures accepted { λ r. ⌜ ((r .number ≡ 0) ↔ None (ChannelsRefusal (now (file .entry)) u (roomIn (length (now (table .entry)))) row)) ⌝ }
-    ensures empty { λ r. ⌜ (Refuses (r .number) → r .channel ≡ emptyChannel) ⌝ }
+    ensures empty { λ r. ⌜ (Refuses (r .number) → Empty (r .channel)) ⌝ }
+    ensures records { λ r. ⌜ (r .number ≡ 0 → RecordAt (now (file .entry)) u i (r .channel)) ⌝ }
 {
     let p = prepare(file, u, table, row);
     let first = p.planes;
@@ -177,7 +179,8 @@ pub fn channels(file: &[u8], u: Summary, table: &mut [u8], row: &mut [Channel]) 
     ensures cleared { λ _. ⌜ now (table .exit) ≡ zeros (length (now (table .entry))) ⌝ }
     ensures first { λ r. ⌜ First (ChannelsRefusal (now (file .entry)) u (roomIn (length (now (table .entry)))) (length (now (row .entry)))) channelsOrder r ⌝ }
     ensures accepted { λ r. ⌜ ((r ≡ 0) ↔ None (ChannelsRefusal (now (file .entry)) u (roomIn (length (now (table .entry)))) (length (now (row .entry))))) ⌝ }
-    ensures emptied { λ r. ⌜ (Refuses r → now (row .exit) ≡ replicate (length (now (row .entry))) emptyChannel) ⌝ }
+    ensures emptied { λ r. ⌜ (Refuses r → Emptied (now (row .entry)) (now (row .exit))) ⌝ }
+    ensures records { λ r. ⌜ (r ≡ 0 → Recorded (now (file .entry)) u (now (row .entry)) (now (row .exit))) ⌝ }
 {
     let p = prepare(file, u, table, row.len());
     let first = p.planes;

@@ -7,9 +7,9 @@ use mathlib.Core.Option.{some}
 use mathlib.Core.List.{List, [], _∷_, _++_}
 use native.Mathlib.Omega.{arith}
 use lib.Dec.{eqb, ltb, leb}
-use lib.ListN.{length, getElem?, take, replicate, length-append, length-replicate}
+use lib.ListN.{length, getD, getElem?, take, replicate, length-append, length-replicate, List·getD-eq-default}
 use lib.Seq.{length-take-le}
-use borrow.Author.Tests.{eqb-false, leb-true, leb-false}
+use borrow.Author.Tests.{eqb-false, ltb-true, ltb-false, leb-true, leb-false}
 use Rattle.format.proofs.Answers.{none≢some, refused≢given, given-inj, refuseIf-given, andThen-given}
 use Rattle.format.proofs.Orders.{decides-given, nonzero}
 use Rattle.format.proofs.Maps.{read-map}
@@ -18,7 +18,7 @@ use Rattle.format.proofs.Entries.{data-read, read-data}
 use Rattle.format.proofs.Named.{named-read, read-named, tree-given, given-tree, tree-means}
 use Rattle.format.proofs.TreeCalls.{read-short}
 use Rattle.format.proofs.PlaneRecords.{planes-read, planes-once}
-use Rattle.format.proofs.ChannelCalls.{planesName, channels-decides}
+use Rattle.format.proofs.ChannelCalls.{planesName, channels-decides, channels-accepted}
 use Rattle.format.specs.Answer.{Answer, given, refused, numberOf}
 use Rattle.format.specs.Refusals as why
 use Rattle.format.specs.Map.{MapEntry, mapEntries}
@@ -29,7 +29,7 @@ use Rattle.format.specs.Calls.Channels.{recordsBy, recordsOf, rowBy, cha
 use Rattle.format.specs.Grammar.Trees.{Tree}
 use Rattle.format.specs.Grammar.Channels.{Empty}
 use Rattle.format.specs.Refused.Tree.{NameData, TableShort}
-use Rattle.format.specs.Refused.Channels.{channelsOrder, RecordsOf, stated, unstated, RecordAt, of-plane, padded, surplus, Recorded, Emptied}
+use Rattle.format.specs.Refused.Channels.{row as row-short, channelsOrder, RecordsOf, stated, unstated, RecordAt, of-plane, padded, surplus, Recorded, Emptied}
 use Rattle.format.specs.declared.Range.{Range}
 use Rattle.format.specs.declared.Entry.{Entry}
 use Rattle.format.specs.declared.Channel.{Channel}
@@ -37,7 +37,7 @@ use Rattle.format.specs.declared.Summary.{Summary}
 
 -- ---- empty records
 
-is-empty : Empty emptyChannel
+pub is-empty : Empty emptyChannel
 unfolding emptyChannel
 is-empty = record { not-named = refl; no-place = refl; no-units = refl; not-colored = refl; no-red = refl; no-green = refl; no-blue = refl }
 
@@ -163,6 +163,11 @@ module _ (s : List ℕ) (u : Summary) where
   record-at-once i (surplus h e) (padded y k f) = empty-once e f
   record-at-once i (surplus h e) (surplus k f) = empty-once e f
 
+there : (cs : List Channel) (i : ℕ) → i < length cs → getElem? cs i ≡ some (getD cs i emptyChannel)
+there [] i h = absurd (omega arith)
+there (c ∷ cs) zero h = refl
+there (c ∷ cs) (suc i) h = there cs i (omega arith)
+
 same-rows : (xs ys : List Channel) → length xs ≡ length ys → ((i : ℕ) (c d : Channel) → getElem? xs i ≡ some c → getElem? ys i ≡ some d → c ≡ d) → xs ≡ ys
 same-rows [] [] l f = refl
 same-rows [] (y ∷ ys) l f = absurd (omega arith)
@@ -183,6 +188,24 @@ module _ (s : List ℕ) (u : Summary) (bytes : List ℕ) (row : List Channel) wh
       let n = length row in
       let (cs, q) = decides-given (nonzero channelsOrder refl) (channels-decides s u room n) e in
       rw q (record { each = row-at s u cs (given-records s u room n cs q) n; length-kept = fitted-length n (fitted (u .components) cs) })
+
+  -- A record that is asked for by itself: behind the row's end it is empty.
+  pub channels-record : channelsCall s u bytes row .number ≡ 0 → (i : ℕ) → RecordAt s u i (getD (channelsCall s u bytes row .row) i emptyChannel)
+  channels-record e i = go (channelsCall s u bytes row .row) (channels-records e)
+    where
+      -- the row is not short
+      enough : length row < u .components → ⊥
+      enough h = channels-accepted s u bytes row .0 e why.channelRow (row-short h)
+
+      go : (out : List Channel) → Recorded s u row out → RecordAt s u i (getD out i emptyChannel)
+      go out x = by (ltb i (length out)) refl
+        where
+          by : (b : Bool) → ltb i (length out) ≡ b → RecordAt s u i (getD out i emptyChannel)
+          by true h = x .each i (getD out i emptyChannel) (there out i (ltb-true i (length out) h))
+          by false h =
+              let k = ltb-false i (length out) h in
+              let l = x .length-kept in
+              rw (List·getD-eq-default out emptyChannel k) (surplus (omega (arith, enough)) is-empty)
 
   -- Where it does not, every record is empty.
   pub channels-emptied : (channelsCall s u bytes row .number ≡ 0 → ⊥) → Emptied row (channelsCall s u bytes row .row)

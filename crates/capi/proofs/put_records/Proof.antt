@@ -6,7 +6,8 @@ use lib.ListN.{length, take}
 use Rattle.format.specs.Bytes.{over}
 use Rattle.format.specs.Channels.{fitted}
 use Rattle.channels.specs.Ahead.{ahead}
-use Rattle.channels.proofs.Rows.{On, on-first, on-next, on-row, fitted-length}
+use Rattle.format.proofs.ChannelRecords.{fitted-length}
+use Rattle.channels.proofs.Rows.{On, on-first, on-next, on-row}
 use Rattle.layout.specs.Layout.{channelRowBytes}
 use Rattle.capi.proofs.Rows.{none-stored, next-stored, all-stored}
 use Rattle.capi.proofs.put_records.Statement.{statement}
