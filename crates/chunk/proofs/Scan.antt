@@ -9,30 +9,47 @@ use lib.ListN.{length, drop}
 use Rattle.format.specs.Bytes.{leAt, part, same}
 use Rattle.format.specs.Answer.{Answer, given, refused, andThen, numberOf}
 use Rattle.format.specs.Map.{MapEntry, throughMark, endMark, mapFrom, mapEntries, mostEntries, offsetOf}
-use Rattle.format.proofs.Maps.{map-end, map-full, map-cut, map-entry, lastOf, last-start, gives, last-entry}
+use Rattle.format.proofs.Maps.{map-none, map-end, map-full, map-cut, map-entry, lastOf, last-start, gives, last-entry}
 use Rattle.chunk.specs.Answers.{lookupOf, givesOf, laterOf, findIn}
-use Rattle.chunk.specs.Scan.{entryAt, Entry, Stands}
+use borrow.Author.Tests.{eq-eqb, ne-eqb, lt-ltb, le-ltb}
+use Rattle.chunk.specs.Scan.{entryAt, Entry, Stands, nextIn}
 use Rattle.chunk.specs.declared.map.Lookup.{Lookup}
 use Rattle.chunk.specs.declared.map.Lookup.the-variants.{Absent}
-use Rattle.chunk.specs.declared.map.Next.the-variants.{Named, End}
+use Rattle.chunk.specs.declared.map.Next.{Next}
+use Rattle.chunk.specs.declared.map.Next.the-variants.{Named, End, Broken}
 
 -- ---- what stands next
 
+abbrev Told : List ℕ → ℕ → ℕ → Next → Type 0
+Told m at k r = (r ≡ nextIn m at k) × Stands m at k r
+
+pub next-none : (m : List ℕ) (at k : ℕ) → none ≡ throughMark (drop at m) → Told m at k Broken
+unfolding nextIn
+next-none m at k t = (rw (← t), map-none (mostEntries - k) m at (sym t))
+
 module _ (m : List ℕ) (at k : ℕ) {n : ℕ} (t : some n ≡ throughMark (drop at m)) where
-  pub next-end : same (part m at n) endMark ≡ true → Stands m at k End
-  next-end e = map-end m at n (sym t) (mostEntries - k) e
+  pub next-end : same (part m at n) endMark ≡ true → Told m at k End
+  unfolding nextIn
+  next-end e = (rw (← t, e), map-end m at n (sym t) (mostEntries - k) e)
 
   module _ (e : same (part m at n) endMark ≡ false) where
-    pub next-full : k ≡ mostEntries → mapFrom (mostEntries - k) m at ≡ refused 5
-    next-full q = let z : mostEntries - k ≡ 0 = omega arith in rw z (map-full m at n (sym t) e)
+    pub next-full : k ≡ mostEntries → Told m at k Broken
+    unfolding nextIn
+    next-full q =
+        let z : mostEntries - k ≡ 0 = omega arith in
+        (rw (← t, e, eq-eqb k mostEntries q), rw z (map-full m at n (sym t) e))
 
-    pub next-cut : length m < at + n + 16 → mapFrom (mostEntries - k) m at ≡ refused 5
-    next-cut l = map-cut m at n (sym t) e (mostEntries - k) l
+    pub next-cut : k < mostEntries → length m < at + n + 16 → Told m at k Broken
+    unfolding nextIn
+    next-cut o l = (rw (← t, e, ne-eqb k mostEntries (omega arith), lt-ltb (length m) (at + n + 16) l), map-cut m at n (sym t) e (mostEntries - k) l)
 
-    pub next-entry : k < mostEntries → at + n + 16 ≤ length m → Stands m at k (Named n)
+    pub next-entry : k < mostEntries → at + n + 16 ≤ length m → Told m at k (Named n)
+    unfolding nextIn
     next-entry o f =
-        let z : mostEntries - k ≡ suc (mostEntries - (k + 1)) = omega arith in
-        record { free = o; inside = f; reads = rw z (map-entry m at n (sym t) e (mostEntries - (k + 1)) f) }
+        let z : mostEntries - k ≡ suc (mostEntries - (k + 1)) = omega arith in (
+          rw (← t, e, ne-eqb k mostEntries (omega arith), le-ltb (length m) (at + n + 16) f),
+          record { free = o; inside = f; reads = rw z (map-entry m at n (sym t) e (mostEntries - (k + 1)) f) },
+        )
 
 -- ---- a pass for a name
 

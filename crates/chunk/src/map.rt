@@ -11,7 +11,7 @@ ghost use Rattle.format.specs.Bytes.{leAt, part, same};
 ghost use Rattle.format.specs.Answer.{numberOf};
 ghost use Rattle.format.specs.Map.{throughMark, mapEntries, mostEntries};
 ghost use Rattle.chunk.specs.Answers.{givesOf, laterOf, lookupOf, findIn};
-ghost use Rattle.chunk.specs.Scan.{Clear, Skipped, foundOf, FoundIn, Stands};
+ghost use Rattle.chunk.specs.Scan.{Clear, Skipped, foundOf, FoundIn, nextIn, Stands};
 
 // Whether '!' is among the 16 bytes from `at` on.
 fn marked16(s: &[u8], at: usize) -> bool
@@ -79,7 +79,7 @@ pub enum Next {
 // What stands at `at`, after so many entries.
 pub fn next_entry(map: &[u8], at: usize, entries: u64) -> Next
     requires { ⌜ (at ≤ length (now map)) × (entries ≤ mostEntries) ⌝ }
-    ensures { λ r. ⌜ Stands (now (map .entry)) at entries r ⌝ }
+    ensures { λ r. ⌜ (r ≡ nextIn (now (map .entry)) at entries) × Stands (now (map .entry)) at entries r ⌝ }
 {
     let Found::Through(n) = through_mark(map, at) else {
         return Next::Broken;

@@ -18,7 +18,7 @@ abbrev μ-loop : tie.MeasureT-loop
 -- the entry that stands next
 entry : (c : tie.After-n Inv-loop μ-loop)
     → Entry (now (c .before .before .before .before .before .before .args .map)) (c .before .before .before .loop .at) (c .before .before .before .loop .entries) (c .n .given .0 .0)
-entry c = rw (c .n .given .1) at (c .before .before .next-entry .ensures)
+entry c = rw (c .n .given .1) at (c .before .before .next-entry .ensures .1)
 
 loop-holds : tie.Need-loop-holds Inv-loop μ-loop
 loop-holds c = pass-start _ _ _
@@ -59,7 +59,7 @@ same-length : tie.Need-same-length Inv-loop μ-loop
 same-length c = c .before .before .before .loop .inv .kept
 
 returns : tie.Need-returns Inv-loop μ-loop
-returns c = pass-end (c .before .before .before .loop .inv) (rw (c .enum-told .given .1) at (c .before .before .next-entry .ensures))
+returns c = pass-end (c .before .before .before .loop .inv) (rw (c .enum-told .given .1) at (c .before .before .next-entry .ensures .1))
 
 enum-told-2 : tie.Need-enum-told-2 Inv-loop μ-loop
 enum-told-2 c = search needs
@@ -68,7 +68,7 @@ same-length-2 : tie.Need-same-length-2 Inv-loop μ-loop
 same-length-2 c = c .before .before .before .loop .inv .kept
 
 returns-2 : tie.Need-returns-2 Inv-loop μ-loop
-returns-2 c = pass-broken (c .before .before .before .loop .inv) (rw (c .enum-told2 .given .1) at (c .before .before .next-entry .ensures))
+returns-2 c = pass-broken (c .before .before .before .loop .inv) (rw (c .enum-told2 .given .1) at (c .before .before .next-entry .ensures .1))
 
 pub put-entries-spec : {M : Type 1} → statement M
 put-entries-spec =

@@ -18,7 +18,7 @@ abbrev μ-loop : tie.MeasureT-loop
 -- what the entry that stands next is
 entry : (c : tie.After-n Inv-loop μ-loop)
     → Entry (now (c .before .before .before .before .before .before .before .before .args .map)) (c .before .before .before .loop .at) (c .before .before .before .loop .entries) (c .n .given .0 .0)
-entry c = rw (c .n .given .1) at (c .before .before .next-entry .ensures)
+entry c = rw (c .n .given .1) at (c .before .before .next-entry .ensures .1)
 
 loop-holds : tie.Need-loop-holds Inv-loop μ-loop
 loop-holds c = (scan-start _ _, scan-start _ _, scan-start _ _)
@@ -74,7 +74,7 @@ enum-told c = search needs
 returns : tie.Need-returns Inv-loop μ-loop
 returns c =
     let h = c .before .before .before .loop .inv in
-    let e = rw (c .enum-told .given .1) at (c .before .before .next-entry .ensures) in
+    let e = rw (c .enum-told .given .1) at (c .before .before .next-entry .ensures .1) in
     (scan-end (h .0) e, scan-end (h .1) e, scan-end (h .2) e)
 
 enum-told-2 : tie.Need-enum-told-2 Inv-loop μ-loop
@@ -83,7 +83,7 @@ enum-told-2 c = search needs
 returns-2 : tie.Need-returns-2 Inv-loop μ-loop
 returns-2 c =
     let h = c .before .before .before .loop .inv in
-    let e = rw (c .enum-told2 .given .1) at (c .before .before .next-entry .ensures) in
+    let e = rw (c .enum-told2 .given .1) at (c .before .before .next-entry .ensures .1) in
     (scan-broken (h .0) e, scan-broken (h .1) e, scan-broken (h .2) e)
 
 pub look-three-spec : {M : Type 1} → statement M

@@ -18,7 +18,7 @@ abbrev μ-loop : tie.MeasureT-loop
 -- what the entry that stands next is
 entry : (c : tie.After-n Inv-loop μ-loop)
     → Entry (now (c .before .before .before .before .before .before .args .map)) (c .before .before .before .loop .at) (c .before .before .before .loop .entries) (c .n .given .0 .0)
-entry c = rw (c .n .given .1) at (c .before .before .next-entry .ensures)
+entry c = rw (c .n .given .1) at (c .before .before .next-entry .ensures .1)
 
 loop-holds : tie.Need-loop-holds Inv-loop μ-loop
 loop-holds c = scan-start _ _
@@ -54,13 +54,13 @@ enum-told : tie.Need-enum-told Inv-loop μ-loop
 enum-told c = search needs
 
 returns : tie.Need-returns Inv-loop μ-loop
-returns c = scan-end (c .before .before .before .loop .inv) (rw (c .enum-told .given .1) at (c .before .before .next-entry .ensures))
+returns c = scan-end (c .before .before .before .loop .inv) (rw (c .enum-told .given .1) at (c .before .before .next-entry .ensures .1))
 
 enum-told-2 : tie.Need-enum-told-2 Inv-loop μ-loop
 enum-told-2 c = search needs
 
 returns-2 : tie.Need-returns-2 Inv-loop μ-loop
-returns-2 c = scan-broken (c .before .before .before .loop .inv) (rw (c .enum-told2 .given .1) at (c .before .before .next-entry .ensures))
+returns-2 c = scan-broken (c .before .before .before .loop .inv) (rw (c .enum-told2 .given .1) at (c .before .before .next-entry .ensures .1))
 
 pub look-up-spec : {M : Type 1} → statement M
 look-up-spec =

@@ -6,8 +6,7 @@ use native.Mathlib.Omega.{arith}
 use denote.Ref.{now}
 use lib.ListN.{length, drop}
 use Rattle.format.specs.Map.{throughMark}
-use Rattle.format.proofs.Maps.{map-none}
-use Rattle.chunk.proofs.Scan.{next-end, next-full, next-cut, next-entry}
+use Rattle.chunk.proofs.Scan.{next-none, next-end, next-full, next-cut, next-entry}
 use borrow.Author.Needs.{needs}
 use Rattle.chunk.proofs.map.next_entry.Statement.{statement}
 use Rattle.chunk.proofs.map.next_entry.Tie as tie
@@ -30,7 +29,7 @@ enum-told : tie.Need-enum-told
 enum-told c = search needs
 
 returns : tie.Need-returns
-returns c = map-none _ _ _ (sym (rw (c .enum-told .given .1) at (c .before .before .through-mark .ensures .0)))
+returns c = next-none _ _ _ (rw (c .enum-told .given .1) at (c .before .before .through-mark .ensures .0))
 
 is-end-requires : tie.Need-is-end-requires
 is-end-requires c κs = ends (c .before)
@@ -53,7 +52,7 @@ returns-4 : tie.Need-returns-4
 returns-4 c =
     let e = c .before .before in
     let n = e .before .before .before in
-    next-cut _ _ _ (through n) (sym (e .before .is-end .ensures) ∙ e .if1 .left) (omega (arith, ends n))
+    next-cut _ _ _ (through n) (sym (e .before .is-end .ensures) ∙ e .if1 .left) (omega (arith, c .before .if2 .left)) (omega (arith, ends n))
 
 returns-5 : tie.Need-returns-5
 returns-5 c =
