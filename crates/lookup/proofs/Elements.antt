@@ -17,7 +17,7 @@ use Rattle.format.specs.Bytes.{same}
 use Rattle.format.specs.Values.{Value, level, list, Slot, named, unnamed, putNamed, putUnnamed, put, nameOf, slotsOf, collapse, elements, spread, valueFrom, valueIf, leaf}
 use Rattle.format.specs.declared.Entry.{Entry}
 use Rattle.lookup.specs.Table.{firsts, Ordered, found}
-use Rattle.lookup.specs.Values.{onlyUnnamed, unnamedIn, elementsFrom, elementsOf, unnamedChild, kids, headOf, listAt}
+use Rattle.lookup.specs.Values.{onlyUnnamed, unnamedIn, elementsFrom, elementsOf, Element, unnamedChild, kids, headOf, listAt}
 use Rattle.lookup.specs.declared.Found.{Found}
 use Rattle.lookup.specs.declared.Found.the-variants.{At, Nothing}
 use Rattle.lookup.proofs.Rows.{slots-more, slots-start, getElem-firsts, child-after}
@@ -401,13 +401,13 @@ module _ (e : ℕ → Entry) (n p k : ℕ) (ys : List ℕ) (o : Ordered e n) (a 
       go (top y z) h = absurd (x (own ∙ y))
       go (up zs l b y) h = subst (After e n p (e k .parent - 1)) (sym (y ∙ rw (none-kids level-kids h))) b
 
-  -- only the whole tree has the number 0
-  pub next-root : q ≡ 0 → p ≡ 0
-  next-root z = go (climb e n p k ys o a)
+  -- where k stands deeper, its level is not the whole tree
+  pub next-above : (q ≡ p → ⊥) → 0 < q
+  next-above x = go (climb e n p k ys o a)
     where
-      go : Climb e n p k ys → p ≡ 0
-      go (top y w) = sym y ∙ sym own ∙ z
-      go (up zs l b y) = absurd (omega (arith, l, z, own))
+      go : Climb e n p k ys → 0 < q
+      go (top y w) = absurd (x (own ∙ y))
+      go (up zs l b y) = omega (arith, l, own)
 
 -- whether entry i is a list, as the code has it
 module _ (s : List ℕ) (e : ℕ → Entry) (n i : ℕ) (r : Entry) (q : r ≡ e i) where
@@ -449,6 +449,9 @@ get-past (x ∷ l) (suc k) h = let z = get-past l k h in omega arith
 pub after-number : (s : List ℕ) (e : ℕ → Entry) (n p k i : ℕ) → getElem? (elementsOf s (firsts n e) p) k ≡ some i
     → After e n p i (drop (suc k) (elementsOf s (firsts n e) p))
 after-number s e n p k i h = after-of _ s e n p (take k (elementsOf s (firsts n e) p)) i _ (get-split _ k i h)
+
+pub element-after : (e : ℕ → Entry) (n p i : ℕ) (x : Element (firsts n e) p i) → After e n p i (drop (suc (x .number)) (elementsOf (x .file) (firsts n e) p))
+element-after e n p i x = after-number (x .file) e n p (x .number) i (x .is)
 
 pub number-next : (s : List ℕ) (e : ℕ → Entry) (n p k : ℕ) (o : Option ℕ) → o ≡ headOf (drop (suc k) (elementsOf s (firsts n e) p))
     → o ≡ getElem? (elementsOf s (firsts n e) p) (k + 1)

@@ -59,9 +59,10 @@ pub record Below (e : ℕ → Entry) (n p r : ℕ) : Type 0 where
   pub high : r ≤ n
   pub inner : (k : ℕ) → p ≤ k → k < r → p ≤ e k .parent
 
--- and no child of the level comes after them
+-- r is the first entry from p on that does not lie below the level, or n where all do; and no child of the level comes after it
 pub record Run (e : ℕ → Entry) (n p r : ℕ) : Type 0 where
   pub below : Below e n p r
+  pub stop : r < n → e r .parent < p
   pub over : (k : ℕ) → r ≤ k → k < n → e k .parent ≡ p → ⊥
 
 -- ---- what a search answers

@@ -1,5 +1,6 @@
 -- What the answers of the lookups stand for, in document 01's terms.
-use Prim.Native.Nat.{ℕ, suc, _<_}
+use Prim.Native.Nat.{ℕ, suc, _+_, _<_}
+use mathlib.Core.Path.{_≡_}
 use mathlib.Core.Bool.{Bool, true, false, _&&_}
 use mathlib.Core.Option.{Option, none, some}
 use mathlib.Core.List.{List, [], _∷_}
@@ -9,7 +10,8 @@ use lib.ListN.{getElem?}
 use Rattle.format.specs.Trees.{mostDepth}
 use Rattle.format.specs.Values.{Value, flag, whole, double, text, bytes, level, list, Slot, named, unnamed, slotsOf, elements, valueFrom}
 use Rattle.format.specs.declared.Entry.{Entry}
-use Rattle.lookup.specs.Table.{firsts, between}
+use Rattle.lookup.specs.Table.{firsts, between, found}
+use Rattle.lookup.specs.declared.Found.{Found}
 use Rattle.lookup.specs.declared.ClxValue.{ClxValue}
 use Rattle.lookup.specs.declared.ClxValue.the-variants as clx
 use Rattle.lookup.specs.declared.Field.{Field}
@@ -38,6 +40,16 @@ elementsFrom levels s es p = elements (λ j. valueFrom levels s es j (getElem? e
 -- the elements of the list that the level p is
 abbrev pub elementsOf : List ℕ → List Entry → ℕ → List ℕ
 elementsOf s es p = elementsFrom mostDepth s es p
+
+-- i is an element of the list that the level p is
+pub record Element (es : List Entry) (p i : ℕ) : Type 0 where
+  pub file : List ℕ
+  pub number : ℕ
+  pub is : getElem? (elementsOf file es p) number ≡ some i
+
+-- the next element, if there is one, was found
+abbrev pub Follows : List Entry → ℕ → ℕ → Found → Type 0
+Follows es p i r = (s : List ℕ) (k : ℕ) → getElem? (elementsOf s es p) k ≡ some i → found r ≡ getElem? (elementsOf s es p) (k + 1)
 
 -- whether entry j of n is a list
 abbrev pub listAt : List ℕ → (ℕ → Entry) → ℕ → ℕ → Bool

@@ -31,7 +31,7 @@ pub fn parent_at(table: &[u8], i: usize) -> usize
     le8(table, 48 * i + 40) as usize
 }
 
-// Where a level's run ends.
+// Where a level's run ends: at the first entry that does not lie below the level, or past the last.
 pub fn end_of(table: &[u8], used: usize, parent: usize) -> usize
     requires { ⌜ Rows (now table) used × (parent ≤ used) ⌝ }
     ensures { λ r. ⌜ Run (entryIn (now (table .entry))) used parent r ⌝ }

@@ -1,11 +1,10 @@
 // The elements of a list.
 ghost use mathlib.Core.Path.{_≡_};
-ghost use Prim.Native.Nat.{ℕ, _+_, _≤_, _<_};
+ghost use Prim.Native.Nat.{ℕ, _≤_, _<_};
 ghost use mathlib.Core.List.{List};
-ghost use mathlib.Core.Option.{some};
-ghost use lib.ListN.{length, getElem?};
+ghost use lib.ListN.{length};
 ghost use Rattle.lookup.specs.Table.{entryIn, entriesIn, Rows, found, Within};
-ghost use Rattle.lookup.specs.Values.{kids, headOf, listAt, elementsOf};
+ghost use Rattle.lookup.specs.Values.{kids, headOf, listAt, elementsOf, Element, Follows};
 use crate::Found;
 use crate::entry::entry_at;
 use crate::entry::parent_at;
@@ -74,11 +73,10 @@ pub fn first_element(table: &[u8], used: usize, parent: usize) -> Found
     }
 }
 
-// The element after entry i, which is one: the next unnamed entry of its own level, or of the list in whose front that stands.
+// The element after the element i: the next unnamed entry of its own level, or of the list in whose front that stands.
 pub fn next_element(table: &[u8], used: usize, parent: usize, i: usize) -> Found
-    requires { ⌜ Rows (now table) used × (i < used) ⌝ }
-    ensures { λ r. ⌜ ((s : List ℕ) (k : ℕ) → getElem? (elementsOf s (entriesIn (now (table .entry)) used) parent) k ≡ some i
-        → found r ≡ getElem? (elementsOf s (entriesIn (now (table .entry)) used) parent) (k + 1)) × Within used r ⌝ }
+    requires { ⌜ Rows (now table) used × (i < used) × Element (entriesIn (now table) used) parent i ⌝ }
+    ensures { λ r. ⌜ Follows (entriesIn (now (table .entry)) used) parent i r × Within used r ⌝ }
 {
     let mut k = i;
     loop {
@@ -89,9 +87,6 @@ pub fn next_element(table: &[u8], used: usize, parent: usize, i: usize) -> Found
             }
             Found::Nothing => {
                 if p == parent {
-                    return Found::Nothing;
-                }
-                if p == 0 {
                     return Found::Nothing;
                 }
                 k = p - 1;

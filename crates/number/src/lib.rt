@@ -69,9 +69,9 @@ pub fn single_of(bits: u32) -> f32
     }
 }
 
-// A pattern of x.
+// The pattern of x: the NaN's is the one without a sign that has only the highest of the digits.
 pub fn double_bits(x: f64) -> u64
-    ensures { λ r. ⌜ Ieee.ofBits binary64 r ≡ x ⌝ }
+    ensures { λ r. ⌜ (Ieee.ofBits binary64 r ≡ x) × (r ≡ Ieee.toBits binary64 x) ⌝ }
 {
     if x != x {
         0x7ff8_0000_0000_0000
@@ -80,9 +80,9 @@ pub fn double_bits(x: f64) -> u64
     }
 }
 
-// A pattern of x.
+// The same of an f32.
 pub fn single_bits(x: f32) -> u32
-    ensures { λ r. ⌜ Ieee.ofBits binary32 r ≡ x ⌝ }
+    ensures { λ r. ⌜ (Ieee.ofBits binary32 r ≡ x) × (r ≡ Ieee.toBits binary32 x) ⌝ }
 {
     if x != x { 0x7fc0_0000 } else { f32::to_bits(x) }
 }

@@ -14,7 +14,7 @@ double-of-requires : tie.Need-double-of-requires
 double-of-requires c κs = search needs
 
 returns : tie.Need-returns
-returns c = c .double-of .ensures ∙ clears binary64 (c .before .double-bits .result) ∙ ap Numbers.magnitude (c .before .double-bits .ensures)
+returns c = c .double-of .ensures ∙ clears binary64 (c .before .double-bits .result) ∙ ap Numbers.magnitude (c .before .double-bits .ensures .0)
 
 pub magnitude-spec : {M : Type 1} → statement M
 magnitude-spec = tie.close (tie.spec double-bits-requires double-of-requires returns)

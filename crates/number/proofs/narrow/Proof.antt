@@ -15,7 +15,7 @@ single-of-requires : tie.Need-single-of-requires
 single-of-requires c κs = search needs
 
 returns : tie.Need-returns
-returns c = c .single-of .ensures ∙ c .before .narrow-bits .ensures ∙ ap Numbers.narrow (c .before .before .double-bits .ensures)
+returns c = c .single-of .ensures ∙ c .before .narrow-bits .ensures ∙ ap Numbers.narrow (c .before .before .double-bits .ensures .0)
 
 pub narrow-spec : {M : Type 1} → statement M
 narrow-spec =

@@ -17,7 +17,7 @@ double-bits-requires c κs = search needs
 returns : tie.Need-returns
 returns c =
     let d = c .before .double-bits in
-    ap some (signed-nan (d .result) (c .if1 .taken) ∙ ap (toSigned 63) (d .ensures))
+    ap some (signed-nan (d .result) (c .if1 .taken) ∙ ap (toSigned 63) (d .ensures .0))
 
 whole-part-requires : tie.Need-whole-part-requires
 whole-part-requires c κs = search needs
@@ -39,7 +39,7 @@ returns-2 c =
     let d = c .before .before .before .before .double-bits in
     let w = c .before .before .whole-part in
     ap (λ (k : ℕ). some (pos k)) (c .at-most .ensures ∙ ap (λ (u : ℕ). min u (2 ^ 63 - 1)) (w .ensures))
-    ∙ ap some (signed-is (d .result) (d .ok) (c .before .before .before .if1 .left) false (lt-leb (2 ^ 63) (d .result) (c .before .if2 .taken)) ∙ ap (toSigned 63) (d .ensures))
+    ∙ ap some (signed-is (d .result) (d .ok) (c .before .before .before .if1 .left) false (lt-leb (2 ^ 63) (d .result) (c .before .if2 .taken)) ∙ ap (toSigned 63) (d .ensures .0))
 
 returns-3 : tie.Need-returns-3
 returns-3 c =
@@ -47,7 +47,7 @@ returns-3 c =
     let w = c .before .before .before .whole-part in
     c .negated .ensures
     ∙ ap (λ (k : ℕ). some (negℤ (pos k))) (c .before .at-most2 .ensures ∙ ap (λ (u : ℕ). min u (2 ^ 63)) (w .ensures))
-    ∙ ap some (signed-is (d .result) (d .ok) (c .before .before .before .before .if1 .left) true (le-leb (2 ^ 63) (d .result) (c .before .before .if2 .left)) ∙ ap (toSigned 63) (d .ensures))
+    ∙ ap some (signed-is (d .result) (d .ok) (c .before .before .before .before .if1 .left) true (le-leb (2 ^ 63) (d .result) (c .before .before .if2 .left)) ∙ ap (toSigned 63) (d .ensures .0))
 
 pub signed-spec : {M : Type 1} → statement M
 signed-spec =

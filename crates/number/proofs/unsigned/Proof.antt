@@ -16,17 +16,17 @@ whole-part-requires c κs = search needs
 returns : tie.Need-returns
 returns c =
     let d = c .before .double-bits in
-    absent-nan (d .result) (c .if1 .taken) ∙ ap unsignedFloat (d .ensures)
+    absent-nan (d .result) (c .if1 .taken) ∙ ap unsignedFloat (d .ensures .0)
 
 returns-2 : tie.Need-returns-2
 returns-2 c =
     let d = c .before .before .double-bits in
-    absent-below (d .result) (d .ok) (c .before .if1 .left) (c .if2 .taken) ∙ ap unsignedFloat (d .ensures)
+    absent-below (d .result) (d .ok) (c .before .if1 .left) (c .if2 .taken) ∙ ap unsignedFloat (d .ensures .0)
 
 returns-3 : tie.Need-returns-3
 returns-3 c =
     let d = c .before .before .before .double-bits in
-    ap some (c .whole-part .ensures) ∙ natural-is (d .result) (d .ok) (c .before .before .if1 .left) (c .before .if2 .left) ∙ ap unsignedFloat (d .ensures)
+    ap some (c .whole-part .ensures) ∙ natural-is (d .result) (d .ok) (c .before .before .if1 .left) (c .before .if2 .left) ∙ ap unsignedFloat (d .ensures .0)
 
 pub unsigned-spec : {M : Type 1} → statement M
 unsigned-spec =

@@ -1,9 +1,10 @@
 -- `count_valid`: some elements are passed, and the next one is at hand.
 use Prim.Native.Nat.{_<_}
 use native.Mathlib.Omega.{arith}
+use mathlib.Core.Path.{sym}
 use Rattle.lookup.specs.Table.{entriesIn, Within}
 use Rattle.lookup.specs.Values.{elementsOf}
-use Rattle.lookup.proofs.Search.{at-within}
+use Rattle.lookup.proofs.Search.{is-at, at-within}
 use Rattle.experiment.proofs.Counts.{Counting, counting-first, counting-done, counting-end, counting-room, counting-more}
 use borrow.Author.Needs.{needs}
 use Rattle.experiment.proofs.single.count_valid.Statement.{statement}
@@ -40,7 +41,12 @@ add-count : tie.Need-add-count Inv-loop μ-loop
 add-count c = record { fits = omega (arith, counting-room _ _ _ _ _ _ _ (c .before .before .before .before .before .loop .inv .1) (c .before .before .before .before .loop-test .taken), c .is-truthy .ensures .1) }
 
 next-element-requires : tie.Need-next-element-requires Inv-loop μ-loop
-next-element-requires c κs = (c .before .before .before .before .before .before .before .before .before .pre .0 .rows, inside (c .before))
+next-element-requires c κs =
+    let k = c .before .before .before .before .before .loop .inv .1 in (
+      c .before .before .before .before .before .before .before .before .before .pre .0 .rows,
+      inside (c .before),
+      record { file = _; number = k .passed; is = sym (is-at _ _ _ (c .before .before .at .given .1) (k .next)) },
+    )
 
 sub-left : tie.Need-sub-left Inv-loop μ-loop
 sub-left c = omega arith

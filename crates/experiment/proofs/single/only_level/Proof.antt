@@ -1,8 +1,9 @@
 -- `only_level`: the first element, where there is no second.
 use Prim.Native.Nat.{_<_}
 use mathlib.Core.Path.{sym, ap, _∙_}
+use mathlib.Core.List.{[]}
 use Rattle.lookup.specs.Table.{found}
-use Rattle.lookup.proofs.Search.{at-within}
+use Rattle.lookup.proofs.Search.{is-at, at-within}
 use Rattle.experiment.proofs.Counts.{only-none, only-one, only-more}
 use borrow.Author.Needs.{needs}
 use Rattle.experiment.proofs.single.only_level.Statement.{statement}
@@ -21,7 +22,11 @@ enum-known-i : tie.Need-enum-known-i
 enum-known-i c = search needs
 
 next-element-requires : tie.Need-next-element-requires
-next-element-requires c κs = (c .before .before .before .before .before .pre .0, inside c)
+next-element-requires c κs = (
+  c .before .before .before .before .before .pre .0,
+  inside c,
+  record { file = []; number = 0; is = sym (is-at _ _ _ (c .before .i .given .1) (c .before .before .before .first-element .ensures .0 [])) },
+)
 
 enum-told-2 : tie.Need-enum-told-2
 enum-told-2 c = search needs

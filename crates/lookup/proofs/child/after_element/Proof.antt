@@ -12,7 +12,7 @@ use Rattle.lookup.proofs.child.after_element.Statement.{statement}
 use Rattle.lookup.proofs.child.after_element.Tie as tie
 
 next-element-requires : tie.Need-next-element-requires
-next-element-requires c κs = search needs
+next-element-requires c κs = (c .before .pre .0, c .before .pre .1, record { file = []; number = _; is = c .before .pre .2 [] })
 
 enum-told : tie.Need-enum-told
 enum-told c = search needs

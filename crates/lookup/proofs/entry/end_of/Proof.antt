@@ -23,7 +23,7 @@ returns : tie.Need-returns Inv-loop μ-loop
 returns c =
     let b = c .before .before .before .loop .inv in
     let h = rw (c .before .parent-at .ensures) at (c .if1 .taken) in
-    record { below = b; over = λ k l m z. c .before .before .before .before .before .pre .0 .order .nested _ _ k (b .low) l m h z }
+    record { below = b; stop = λ l. h; over = λ k l m z. c .before .before .before .before .before .pre .0 .order .nested _ _ k (b .low) l m h z }
 
 add-i : tie.Need-add-i Inv-loop μ-loop
 add-i c = search needs
@@ -35,7 +35,7 @@ loop-again : tie.Need-loop-again Inv-loop μ-loop
 loop-again c = below-more _ _ _ _ (c .before .before .before .loop .inv) (c .before .before .loop-test .taken) (rw (c .before .parent-at .ensures) at (c .if1 .left))
 
 returns-2 : tie.Need-returns-2 Inv-loop μ-loop
-returns-2 c = record { below = c .before .loop .inv; over = λ k l m z. omega arith }
+returns-2 c = record { below = c .before .loop .inv; stop = λ l. omega arith; over = λ k l m z. omega arith }
 
 pub end-of-spec : {M : Type 1} → statement M
 end-of-spec =

@@ -1,13 +1,14 @@
 -- n elements are counted, and the next one is at hand.
 use Prim.Native.Nat.{ℕ, _-_}
 use native.Mathlib.Omega.{arith}
+use mathlib.Core.Path.{sym}
 use mathlib.Core.List.{List, []}
 use lib.ListN.{length}
 use Rattle.format.specs.Trees.{mostDepth}
 use Rattle.lookup.specs.Table.{entryIn, entriesIn, Within}
 use Rattle.lookup.specs.Values.{elementsOf}
 use Rattle.lookup.proofs.Elements.{Counted, counted-end, counted-less, counted-more, elements-short}
-use Rattle.lookup.proofs.Search.{at-within}
+use Rattle.lookup.proofs.Search.{is-at, at-within}
 use Rattle.lookup.proofs.list.count_elements.Statement.{statement}
 use Rattle.lookup.proofs.list.count_elements.Tie as tie
 use borrow.Author.Needs.{needs}
@@ -34,7 +35,10 @@ enum-known-at : tie.Need-enum-known-at Inv-loop μ-loop
 enum-known-at c = search needs
 
 next-element-requires : tie.Need-next-element-requires Inv-loop μ-loop
-next-element-requires c κs = (c .before .before .before .before .before .before .pre .0, at-within _ _ _ (c .before .at .given .1) (c .before .before .before .loop .inv .0))
+next-element-requires c κs =
+    let v = c .before .before .before .loop .inv in
+    let h = c .before .at .given .1 in
+    (c .before .before .before .before .before .before .pre .0, at-within _ _ _ h (v .0), record { file = []; number = _; is = sym (is-at _ _ _ h (v .1 [] .next)) })
 
 add-n : tie.Need-add-n Inv-loop μ-loop
 add-n c =

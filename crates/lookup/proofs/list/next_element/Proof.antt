@@ -1,10 +1,9 @@
 -- What comes after entry i comes after k, an entry in whose front i stands.
 use Prim.Native.Nat.{ℕ, _<_}
 use native.Mathlib.Omega.{arith}
-use mathlib.Core.Path.{sym, _∙_}
 use mathlib.Core.List.{List}
 use Rattle.lookup.specs.Table.{entryIn, found}
-use Rattle.lookup.proofs.Elements.{After, after-number, number-next, next-found, next-none, next-up, next-root}
+use Rattle.lookup.proofs.Elements.{After, after-number, number-next, next-found, next-none, next-up, next-above, element-after}
 use Rattle.lookup.proofs.Search.{is-at, is-nothing, at-within}
 use Rattle.lookup.proofs.list.next_element.Statement.{statement}
 use Rattle.lookup.proofs.list.next_element.Tie as tie
@@ -49,25 +48,29 @@ returns-2 c =
     let h = is-nothing _ _ (c .before .enum-told .given .1) (c .before .before .before .next-unnamed .ensures .0) in
     (λ s m q. number-next s (entryIn _) _ _ m _ (next-none (entryIn _) _ _ _ _ (c .before .before .before .before .before .before .before .pre .0 .order) (c .before .before .before .before .before .loop .inv .1 _ (after-number s (entryIn _) _ _ m _ q)) _ (c .before .before .before .before .parent-at .ensures) h (c .if1 .taken)), tt)
 
-returns-3 : tie.Need-returns-3 Inv-loop μ-loop
-unfolding found
-returns-3 c = (λ s m q. absurd (c .before .if1 .left (c .if2 .taken ∙ sym (next-root (entryIn _) _ _ _ _ (c .before .before .before .before .before .before .before .before .pre .0 .order) (c .before .before .before .before .before .before .loop .inv .1 _ (after-number s (entryIn _) _ _ m _ q)) _ (c .before .before .before .before .before .parent-at .ensures) (c .if2 .taken)))), tt)
-
 sub-k : tie.Need-sub-k Inv-loop μ-loop
-sub-k c = omega (arith, c .if2 .left)
+sub-k c =
+    let p = c .before .before .before .before .before .before .before .pre in
+    let v = c .before .before .before .before .before .loop .inv in
+    omega (arith, next-above (entryIn _) _ _ _ _ (p .0 .order) (v .1 _ (element-after (entryIn _) _ _ _ (p .2))) _ (c .before .before .before .before .parent-at .ensures) (c .if1 .left))
 
 loop-less : tie.Need-loop-less Inv-loop μ-loop
 loop-less c =
-    let o = c .before .before .before .before .before .before .before .before .pre .0 .order .older _ (c .before .before .before .before .before .before .loop .inv .0) in
-    let e = c .before .before .before .before .before .parent-at .ensures in
-    omega (arith, c .if2 .left)
+    let p = c .before .before .before .before .before .before .before .pre in
+    let v = c .before .before .before .before .before .loop .inv in
+    let o = p .0 .order .older _ (v .0) in
+    let e = c .before .before .before .before .parent-at .ensures in
+    omega (arith, next-above (entryIn _) _ _ _ _ (p .0 .order) (v .1 _ (element-after (entryIn _) _ _ _ (p .2))) _ e (c .if1 .left))
 
 loop-again : tie.Need-loop-again Inv-loop μ-loop
 loop-again c =
-    let o = c .before .before .before .before .before .before .before .before .pre .0 .order .older _ (c .before .before .before .before .before .before .loop .inv .0) in
-    let e = c .before .before .before .before .before .parent-at .ensures in
-    let h = is-nothing _ _ (c .before .before .enum-told .given .1) (c .before .before .before .before .next-unnamed .ensures .0) in
-    (omega (arith, c .if2 .left, c .before .before .before .before .before .before .loop .inv .0), λ ys a. next-up (entryIn _) _ _ _ ys (c .before .before .before .before .before .before .before .before .pre .0 .order) (c .before .before .before .before .before .before .loop .inv .1 ys a) _ e h (c .before .if1 .left))
+    let p = c .before .before .before .before .before .before .before .pre in
+    let v = c .before .before .before .before .before .loop .inv in
+    let o = p .0 .order .older _ (v .0) in
+    let e = c .before .before .before .before .parent-at .ensures in
+    let h = is-nothing _ _ (c .before .enum-told .given .1) (c .before .before .before .next-unnamed .ensures .0) in
+    let z = next-above (entryIn _) _ _ _ _ (p .0 .order) (v .1 _ (element-after (entryIn _) _ _ _ (p .2))) _ e (c .if1 .left) in
+    (omega (arith, v .0), λ ys a. next-up (entryIn _) _ _ _ ys (p .0 .order) (v .1 ys a) _ e h (c .if1 .left))
 
 pub next-element-spec : {M : Type 1} → statement M
 next-element-spec =
@@ -83,7 +86,6 @@ next-element-spec =
     returns
     enum-told
     returns-2
-    returns-3
     sub-k
     loop-less
     loop-again)

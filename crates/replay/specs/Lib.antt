@@ -1,0 +1,2 @@
+-- the checksum of an answer
+pub mod Checksum
