@@ -59,7 +59,7 @@ walks-axial s es is n bs w =
 abbrev pub loopOf : Built → Loop
 loopOf b = record { axis = axisOf (b .kind); count = b .count }
 
-on-axis : (t : ℕ) (a : Axis) → OnAxis t a → a ≡ axisOf t
+pub on-axis : (t : ℕ) (a : Axis) → OnAxis t a → a ≡ axisOf t
 on-axis t a time = refl
 on-axis t a points = refl
 on-axis t a focus = refl

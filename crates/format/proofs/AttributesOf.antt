@@ -18,7 +18,6 @@ use Rattle.format.specs.Values.{field, fieldIn, asLevel, bind}
 use Rattle.format.specs.Numbers.{unsigned, signed, below32}
 use Rattle.format.specs.Attributes.{badShape, badBits, uncompressed, attributes}
 use Rattle.format.specs.Grammar.Attributes.{AttributesOf}
-use Rattle.format.specs.Refusals as why
 use Rattle.format.specs.declared.Entry.{Entry}
 use Rattle.format.specs.declared.Attributes.{Attributes}
 
@@ -31,13 +30,13 @@ pub some-below : (o : Option ℕ) (n : ℕ) → o ≡ some n → n < 2 ^ 32 → 
 unfolding below32
 some-below o n e h = rw (e, lt-ltb n (2 ^ 32) h) refl
 
-two-uncompressed : (o : Option ℤ) → uncompressed o ≡ true → o ≡ some (pos 2)
+pub two-uncompressed : (o : Option ℤ) → uncompressed o ≡ true → o ≡ some (pos 2)
 unfolding uncompressed
 two-uncompressed none e = absurd (true≢false (sym e))
 two-uncompressed (some (pos n)) e = ap (λ (n : ℕ). some (pos n)) (eqb-true n 2 e)
 two-uncompressed (some (negsuc n)) e = absurd (true≢false (sym e))
 
-uncompressed-two : (o : Option ℤ) → o ≡ some (pos 2) → not (uncompressed o) ≡ false
+pub uncompressed-two : (o : Option ℤ) → o ≡ some (pos 2) → not (uncompressed o) ≡ false
 unfolding uncompressed
 uncompressed-two o e = rw e refl
 
@@ -45,28 +44,30 @@ module _ (s : List ℕ) (es : List Entry) (M : Means s es) where
   pub attributes-read : (a : Attributes) → attributes s es ≡ given a → AttributesOf s es a
   unfolding attributes
   attributes-read a e =
-      let (i, f₀, e₀) = andThen-given (orRefuse (asLevel (field s es 0 (ascii "SLxImageAttributes"))) why.missing) _ e in
-      let (w, f₁, e₁) = andThen-given (orRefuse (bind (fieldIn s es i (ascii "uiWidth")) unsigned) why.missing) _ e₀ in
-      let (wb, f₂, e₂) = andThen-given (orRefuse (bind (fieldIn s es i (ascii "uiWidthBytes")) unsigned) why.missing) _ e₁ in
-      let (h, f₃, e₃) = andThen-given (orRefuse (bind (fieldIn s es i (ascii "uiHeight")) unsigned) why.missing) _ e₂ in
-      let (c, f₄, e₄) = andThen-given (orRefuse (bind (fieldIn s es i (ascii "uiComp")) unsigned) why.missing) _ e₃ in
-      let (b, f₅, e₅) = andThen-given (orRefuse (below32 (bind (fieldIn s es i (ascii "uiBpcInMemory")) unsigned)) why.missing) _ e₄ in
+      let (i, f₀, e₀) = andThen-given (orRefuse (asLevel (field s es 0 (ascii "SLxImageAttributes"))) _) _ e in
+      let (w, f₁, e₁) = andThen-given (orRefuse (bind (fieldIn s es i (ascii "uiWidth")) unsigned) _) _ e₀ in
+      let (wb, f₂, e₂) = andThen-given (orRefuse (bind (fieldIn s es i (ascii "uiWidthBytes")) unsigned) _) _ e₁ in
+      let (h, f₃, e₃) = andThen-given (orRefuse (bind (fieldIn s es i (ascii "uiHeight")) unsigned) _) _ e₂ in
+      let (c, f₄, e₄) = andThen-given (orRefuse (bind (fieldIn s es i (ascii "uiComp")) unsigned) _) _ e₃ in
+      let (b, f₅, e₅) = andThen-given (orRefuse (below32 (bind (fieldIn s es i (ascii "uiBpcInMemory")) unsigned)) _) _ e₄ in
       let x : Attributes = record { width = w; stride = wb; height = h; components = c; bits = b } in
-      let (f₆, e₆) = refuseIf-given (not (uncompressed (bind (fieldIn s es i (ascii "eCompression")) signed))) why.compression _ e₅ in
-      let (f₇, e₇) = refuseIf-given (badBits b) why.bits _ e₆ in
-      let (f₈, e₈) = refuseIf-given (badShape x) why.frameShape (given x) e₇ in
+      let (f₆, e₆) = refuseIf-given (not (uncompressed (bind (fieldIn s es i (ascii "eCompression")) signed))) _ _ e₅ in
+      let (f₇, e₇) = refuseIf-given (badBits b) _ _ e₆ in
+      let (f₈, e₈) = refuseIf-given (badShape x) _ (given x) e₇ in
       let q : x ≡ a = given-inj e₈ in
-      let (b₁, b₂) = below-some _ b (orRefuse-given _ why.missing f₅) in
+      let (b₁, b₂) = below-some _ b (orRefuse-given _ _ f₅) in
       subst (AttributesOf s es) q
       (record {
         at-level = i;
-        level-there = level-at s es M 0 .holds i (orRefuse-given _ why.missing f₀);
-        width = unsigned-in s es M i .holds w (orRefuse-given _ why.missing f₁);
-        row = unsigned-in s es M i .holds wb (orRefuse-given _ why.missing f₂);
-        height = unsigned-in s es M i .holds h (orRefuse-given _ why.missing f₃);
-        components = unsigned-in s es M i .holds c (orRefuse-given _ why.missing f₄);
-        bits = unsigned-in s es M i .holds b b₁;
-        bits-u32 = b₂;
+        sized = record {
+          level-there = level-at s es M 0 .holds i (orRefuse-given _ _ f₀);
+          width = unsigned-in s es M i .holds w (orRefuse-given _ _ f₁);
+          row = unsigned-in s es M i .holds wb (orRefuse-given _ _ f₂);
+          height = unsigned-in s es M i .holds h (orRefuse-given _ _ f₃);
+          components = unsigned-in s es M i .holds c (orRefuse-given _ _ f₄);
+          bits = unsigned-in s es M i .holds b b₁;
+          bits-u32 = b₂;
+        };
         compression = signed-in s es M i .holds (pos 2) (two-uncompressed _ (not-false _ f₆));
         bits-known = bits-good b f₇;
         shape = shape-good x f₈;
@@ -76,12 +77,13 @@ module _ (s : List ℕ) (es : List Entry) (M : Means s es) where
   unfolding attributes
   read-attributes a x =
       let i = x .at-level in
-      go-on _ _ i (found _ why.missing i (level-at s es M 0 .only i (x .level-there)))
-      (go-on _ _ (a .width) (found _ why.missing (a .width) (unsigned-in s es M i .only (a .width) (x .width)))
-      (go-on _ _ (a .stride) (found _ why.missing (a .stride) (unsigned-in s es M i .only (a .stride) (x .row)))
-      (go-on _ _ (a .height) (found _ why.missing (a .height) (unsigned-in s es M i .only (a .height) (x .height)))
-      (go-on _ _ (a .components) (found _ why.missing (a .components) (unsigned-in s es M i .only (a .components) (x .components)))
-      (go-on _ _ (a .bits) (found _ why.missing (a .bits) (some-below _ (a .bits) (unsigned-in s es M i .only (a .bits) (x .bits)) (x .bits-u32)))
-      (not-refused _ why.compression _ _ (uncompressed-two _ (signed-in s es M i .only (pos 2) (x .compression)))
-      (not-refused _ why.bits _ _ (good-bits (a .bits) (x .bits-known))
-      (not-refused _ why.frameShape _ _ (good-shape a (x .shape)) refl))))))))
+      let y = x .sized in
+      go-on _ _ i (found _ _ i (level-at s es M 0 .only i (y .level-there)))
+      (go-on _ _ (a .width) (found _ _ (a .width) (unsigned-in s es M i .only (a .width) (y .width)))
+      (go-on _ _ (a .stride) (found _ _ (a .stride) (unsigned-in s es M i .only (a .stride) (y .row)))
+      (go-on _ _ (a .height) (found _ _ (a .height) (unsigned-in s es M i .only (a .height) (y .height)))
+      (go-on _ _ (a .components) (found _ _ (a .components) (unsigned-in s es M i .only (a .components) (y .components)))
+      (go-on _ _ (a .bits) (found _ _ (a .bits) (some-below _ (a .bits) (unsigned-in s es M i .only (a .bits) (y .bits)) (y .bits-u32)))
+      (not-refused _ _ _ _ (uncompressed-two _ (signed-in s es M i .only (pos 2) (x .compression)))
+      (not-refused _ _ _ _ (good-bits (a .bits) (x .bits-known))
+      (not-refused _ _ _ _ (good-shape a (x .shape)) refl))))))))

@@ -1,5 +1,5 @@
 -- What the grammar says of the calibration is what opening makes of it. Assumes nothing.
-use Prim.Native.Nat.{ℕ, _≤_}
+use Prim.Native.Nat.{ℕ, _≤_, _<_}
 use mathlib.Core.Path.{_≡_, refl, sym, ap, _∙_, subst}
 use mathlib.Core.Bool.{Bool, true, false, cond, _&&_, true≢false, false≢true}
 use mathlib.Core.Option.{Option, none, some}
@@ -8,9 +8,9 @@ use native.Mathlib.Omega.{arith}
 use lib.Dec.{eqb, leb}
 use lib.ListN.{length, take}
 use lib.Ieee.{Float, nan, inf, fin, lt}
-use borrow.Author.Tests.{leb-true, eqb-true, eqb-false, ne-eqb}
+use borrow.Author.Tests.{leb-true, leb-false, eqb-true, eqb-false, ne-eqb}
 use Rattle.format.proofs.Tests.{and-left, and-right}
-use Rattle.format.proofs.Answers.{refused≢given, none≢some, given-inj, Numbered, refusal}
+use Rattle.format.proofs.Answers.{refused≢given, refused-inj, none≢some, given-inj, Numbered, refusal}
 use Rattle.format.proofs.Trees.{tree-read, fault-read, read-fault}
 use Rattle.format.proofs.Rules.{States, no-such, none-of, bind-some, some-bind, cond-some}
 use Rattle.format.proofs.Means.{Means}
@@ -166,6 +166,35 @@ module _ (s m : List ℕ) (es : List MapEntry) (room : ℕ) (z : Option Float) w
           let x = named-read s m es name r q in
           let (c, l) = size-tree r size x e in
           (c, λ p y. rw (named-unique s m es name p r y x) l)
+
+  -- it is refused with 18 alone, where the table is too short for its tree
+  pub record Overfull : Type 0 where
+    pub place : Range
+    pub named : Named s m es name place
+    pub over : room < length (treeIn s place .entries)
+
+  pub calibration-stops : (n : ℕ) → calibration s m es room (zFloat z) ≡ refused n → (n ≡ why.table) × Overfull
+  unfolding calibration namedTree andThen calibrationBy within wholeTree
+  calibration-stops n e = go (namedChunk s m es name) refl (named-numbered s m es name) e
+    where
+      end : (r : Range) (t : Stop) → treeIn s r .stop ≡ t → calibrationBy s (zFloat z) (wholeTree t (treeIn s r .entries)) ≡ refused n → ⊥
+      end r (at p) q e = refused≢given (sym e)
+      end r (fault k) q e =
+          let low = fault-low s r k q in
+          let e₂ : cond (eqb k why.table) (refused why.table) (given (unstated (cond (eqb k why.packed) 2 0))) ≡ refused n = e in
+          refused≢given (sym (rw (ne-eqb k why.table (λ z. omega arith)) at e₂))
+
+      tree : (r : Range) → Named s m es name r → (b : Bool) → leb (length (treeIn s r .entries)) room ≡ b
+          → calibrationBy s (zFloat z) (treeEntries (cond b (treeIn s r) (record { entries = take room (treeIn s r .entries); stop = fault why.table })))
+          ≡ refused n → (n ≡ why.table) × Overfull
+      tree r x true q e = absurd (end r (treeIn s r .stop) refl e)
+      tree r x false q e = (sym (refused-inj e), record { place = r; named = x; over = leb-false (length (treeIn s r .entries)) room q })
+
+      go : (x : Answer Range) → namedChunk s m es name ≡ x → Numbered Missing x
+          → calibrationBy s (zFloat z) (andThen x λ r. treeEntries (within room (treeIn s r))) ≡ refused n → (n ≡ why.table) × Overfull
+      go (refused k) q (refusal no-entry) e = absurd (refused≢given (sym e))
+      go (refused k) q (refusal no-chunk) e = absurd (refused≢given (sym e))
+      go (given r) q h e = tree r (named-read s m es name r q) (leb (length (treeIn s r .entries)) room) refl e
 
   -- and the other way round
   pub read-calibration : (size : Calibration) → Calibrated s m es z size → ((r : Range) → Named s m es name r → length (treeIn s r .entries) ≤ room)

@@ -57,6 +57,9 @@ module _ (name s : List ℕ) (at : ℕ) where
       (not-refused _ 4 _ _ (le-ltb _ _ (c .data-within))
       (sym (λ i. given (record { start = c .data-start i; len = c .data-len i })))))))
 
+  pub chunk-unique : (r q : Range) → Chunk name s at r → Chunk name s at q → r ≡ q
+  chunk-unique r q x y = given-inj (sym (read-chunk r x) ∙ read-chunk q y)
+
   pub chunk-numbered : (P : ℕ → Type 0) → P 4 → Numbered P (chunkData name s at)
   unfolding chunkData
   chunk-numbered P h =

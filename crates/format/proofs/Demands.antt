@@ -16,6 +16,8 @@ use Rattle.format.specs.Demands.{Refuses, FirstDemand, ThirdDemand}
 use Rattle.format.specs.declared.Summary.{Summary}
 use Rattle.format.proofs.Answers.{Numbered, NotZero, refusal}
 use Rattle.format.proofs.Files.{joined-unique, opened-iff-joined}
+use Rattle.format.proofs.OpenNumbers.{open-number, open-number-only}
+use Rattle.format.proofs.BorderNumbers.{border-number, border-number-only}
 use Rattle.format.proofs.Nonzero.{opened-some}
 use Rattle.format.proofs.Sounds.{joined-sound}
 use Rattle.format.proofs.Frames.{seq-different}
@@ -72,6 +74,8 @@ unfolding openCall borderCall
 first = record {
   open-table = λ file table. refl;
   open-refused = λ file table. refused-zero file (roomIn (length table));
+  open-number = open-number;
+  open-number-only = open-number-only;
   plane-number = plane-number;
   plane-refused = plane-refused;
   tree-number = tree-number;
@@ -85,6 +89,8 @@ first = record {
   register-number = register-number;
   register-refused = register-refused;
   register-frames = register-frames;
+  border-number = border-number;
+  border-number-only = border-number-only;
   border-table = λ file table scene t c z samples. refl;
   border-refused = λ file table scene t c z samples. border-kept file scene t c z samples (opened file (roomIn (length table)));
 }

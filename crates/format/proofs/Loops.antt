@@ -1,7 +1,7 @@
 -- What the grammar says of one experiment level is what is read of it. Assumes nothing.
 use Prim.Native.Nat.{ℕ, zero, suc, _+_}
 use mathlib.Core.Path.{_≡_, refl, sym, ap, _∙_}
-use mathlib.Core.Bool.{Bool, true, false, cond, not, _||_, false≢true}
+use mathlib.Core.Bool.{Bool, true, false, cond, not, _||_, true≢false, false≢true}
 use mathlib.Core.Logic.{inl, inr}
 use mathlib.Core.Option.{Option, none, some}
 use mathlib.Core.List.{List, [], _∷_}
@@ -11,7 +11,7 @@ use lib.Dec.{eqb, ltb}
 use lib.IntN.{ℤ, pos, negsuc}
 use lib.ListN.{take}
 use borrow.Author.Tests.{ltb-true, ltb-false, lt-ltb, le-ltb, eqb-true, eqb-false, ne-eqb, not-false}
-use Rattle.format.proofs.Tests.{cond-by}
+use Rattle.format.proofs.Tests.{or-left, or-right, or-none, cond-by}
 use Rattle.format.proofs.Answers.{none≢some}
 use Rattle.format.proofs.Rules.{Gives, States, no-such, none-of, bind-some, some-bind}
 use Rattle.format.proofs.Means.{Means}
@@ -26,6 +26,8 @@ use Rattle.format.specs.Grammar.Lists.{All, over, more}
 use Rattle.format.specs.Grammar.Values.{ValueOf, Field}
 use Rattle.format.specs.Grammar.Numbers.{Signed}
 use Rattle.format.specs.Grammar.Loops.{Parameters, in-level, in-list, UiCount, stated as count-stated, unstated as count-unstated, PlanesCount, SpectralCount, preferred, plain, Points, Valid, no-more, set, unset, PointCount, no-points, all-points, valid-points, Count, of-time, of-points, of-focus, of-spectral, of-custom, of-time-uneven, Stops, no-parameters, no-type, type-0, type-over, count-0, LoopAt, Below, levels, no-levels}
+use Rattle.format.specs.Refused.Loops.{LoopType, time, points, focus, spectral, custom, time-uneven, Unfit, type-negative, type-other, count-over}
+use Rattle.format.specs.Refusals as why
 use Rattle.format.specs.declared.Entry.{Entry}
 
 -- what `validOf` makes of pItemValid
@@ -47,7 +49,7 @@ valid-by s es n (some (list l)) = by-list
 -- what the rules say of the level i, for each thing that `said` may give
 unfoldable pub Told : List ℕ → List Entry → ℕ → Said → Type 0
 Told s es i nothing = Stops s es i
-Told s es i (wrong n) = Unit {0}
+Told s es i (wrong n) = Unfit s es i n
 Told s es i (loop t c) = LoopAt s es i t c
 
 module _ (s : List ℕ) (es : List Entry) (M : Means s es) where
@@ -232,6 +234,21 @@ module _ (s : List ℕ) (es : List Entry) (M : Means s es) where
   unfolding ascii
   kind-in i = signed-in s es M i
 
+  type-supported : (t : ℕ) → LoopType t → supported t ≡ true
+  unfolding supported
+  type-supported t time = refl
+  type-supported t points = refl
+  type-supported t focus = refl
+  type-supported t spectral = refl
+  type-supported t custom = refl
+  type-supported t time-uneven = refl
+
+  other-unsupported : (t : ℕ) → (LoopType t → ⊥) → supported t ≡ false
+  unfolding supported
+  other-unsupported t f =
+      or-none _ _ (or-none _ _ (or-none _ _ (or-none _ _ (or-none _ _ (ne-eqb t 1 λ e. f (rw e time)) (ne-eqb t 2 λ e. f (rw e points)))
+      (ne-eqb t 4 λ e. f (rw e focus))) (ne-eqb t 6 λ e. f (rw e spectral))) (ne-eqb t 7 λ e. f (rw e custom))) (ne-eqb t 8 λ e. f (rw e time-uneven))
+
   pub told : (i : ℕ) → Told s es i (said s es i)
   unfolding said Told
   told i = go (loopParams s es (fieldIn s es i (ascii "uLoopPars"))) refl (bind (fieldIn s es i (ascii "eType")) signed) refl
@@ -240,9 +257,15 @@ module _ (s : List ℕ) (es : List Entry) (M : Means s es) where
       zero-or-over t x true q e = type-0 (rw (eqb-true t 0 q) at x)
       zero-or-over t x false q e = type-over x (ltb-true 10 t e)
 
+      other : {p : ℕ} (t : ℕ) → Parameters s es i p → Signed s es i (ascii "eType") (pos t)
+          → (eqb t 0 || ltb 10 t) ≡ false → not (supported t) ≡ true → Unfit s es i why.loopKind
+      other t x y q e =
+          let z : (t ≡ 0 → ⊥) = eqb-false t 0 (or-left (eqb t 0) (ltb 10 t) q) in
+          type-other x y (omega arith) (ltb-false 10 t (or-right (eqb t 0) (ltb 10 t) q)) λ k. true≢false (sym e ∙ ap not (type-supported t k))
+
       count : (p t c : ℕ) → Parameters s es i p → Signed s es i (ascii "eType") (pos t) → Count s es i p t c → Told s es i (counted t c)
       count p t c x y n =
-          cond-by (Told s es i) (ltb mostCount c) _ _ (λ q. tt) λ q₁.
+          cond-by (Told s es i) (ltb mostCount c) _ _ (λ q. count-over x y n (ltb-true mostCount c q)) λ q₁.
           cond-by (Told s es i) (eqb c 0) _ _ (λ q. count-0 x y (rw (eqb-true c 0 q) at n)) λ q₂.
           let z : (c ≡ 0 → ⊥) = eqb-false c 0 q₂ in
           record { parameters = p; there = x; kind = y; count = n; count-some = omega arith; count-most = ltb-false mostCount c q₁ }
@@ -251,12 +274,12 @@ module _ (s : List ℕ) (es : List Entry) (M : Means s es) where
           → Told s es i (saidBy s es i o k)
       go none q k r = no-parameters (no-such _ (parameters-in i) q)
       go (some p) q none r = no-type (no-such _ (kind-in i) r)
-      go (some p) q (some (negsuc t)) r = tt
+      go (some p) q (some (negsuc t)) r = type-negative (parameters-in i .holds p q) (kind-in i .holds (negsuc t) r)
       go (some p) q (some (pos t)) r =
           let x = parameters-in i .holds p q in
           let y = kind-in i .holds (pos t) r in
           cond-by (Told s es i) (eqb t 0 || ltb 10 t) _ _ (λ e. zero-or-over t y (eqb t 0) refl e) λ q₁.
-          cond-by (Told s es i) (not (supported t)) _ _ (λ e. tt) λ q₂.
+          cond-by (Told s es i) (not (supported t)) _ _ (other t x y q₁) λ q₂.
           count p t _ x y (count-of i p t (not-false _ q₂))
 
   said-typed : (i p t : ℕ) → Parameters s es i p → Signed s es i (ascii "eType") (pos t) → said s es i ≡ typed s es i p (pos t)
@@ -286,6 +309,13 @@ module _ (s : List ℕ) (es : List Entry) (M : Means s es) where
       let h = x .count-some in
       said-typed i (x .parameters) t (x .there) (x .kind) ∙ (typed-count i (x .parameters) t c (x .count)
       ∙ rw (le-ltb mostCount c (x .count-most), ne-eqb c 0 (λ e. omega arith)) refl)
+
+  pub unfit-said : (i n : ℕ) → Unfit s es i n → said s es i ≡ wrong n
+  unfolding said typed counted
+  unfit-said i n (type-negative {p = p} {t = t} x y) = rw (parameters-in i .only p x, kind-in i .only (negsuc t) y) refl
+  unfit-said i n (type-other {p = p} {t = t} x y h l f) =
+      said-typed i p t x y ∙ rw (ne-eqb t 0 (λ e. omega arith), le-ltb 10 t l, other-unsupported t f) refl
+  unfit-said i n (count-over {p = p} {t = t} {c = c} x y k h) = said-typed i p t x y ∙ (typed-count i p t c k ∙ rw (lt-ltb mostCount c h) refl)
 
   pub below-in : (i : ℕ) → Gives (childLevels s es (fieldIn s es i (ascii "ppNextLevelEx"))) (Below s es i)
   unfolding ascii childLevels

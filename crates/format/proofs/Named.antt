@@ -23,6 +23,7 @@ use Rattle.format.specs.declared.Range.{Range}
 use Rattle.format.specs.Chunks.{chunkMark, chunkData, dataIn}
 use Rattle.format.specs.Map.{MapEntry, endMark, mapName, mapEntries, offsetOf, mapRange, namedChunk}
 use Rattle.format.specs.Trees.{at, fault, Read, treeIn, within, wholeTree as wholeTree, namedTree}
+use Rattle.format.specs.Grammar.Chunks.{Chunk}
 use Rattle.format.specs.Grammar.Map.{Mapped, Named}
 use Rattle.format.specs.Grammar.Trees.{Tree}
 use Rattle.format.specs.declared.Entry.{Entry}
@@ -35,9 +36,16 @@ pub data Missing : ℕ → Type 0 where
 -- ---- the map
 
 module _ (s : List ℕ) where
-  pub mapped-read : (r : Range) (es : List MapEntry) → mapRange s ≡ given r → mapEntries (dataIn s r) ≡ given es → Mapped s r es
+  -- what stands before the map's entries
+  pub record Located (r : Range) : Type 0 where
+    pub first-mark : leAt 4 s 0 ≡ chunkMark
+    pub locator-within : 40 ≤ length s
+    pub locator : part s (length s - 40) 32 ≡ endMark
+    pub map-chunk : Chunk mapName s (leAt 8 s (length s - 8)) r
+
+  pub range-read : (r : Range) → mapRange s ≡ given r → Located r
   unfolding mapRange
-  mapped-read r es e f =
+  range-read r e =
       let n = length s in
       let (f₁, e₁) = refuseIf-given (ltb n 4) why.foreign _ e in
       let (f₂, e₂) = refuseIf-given (eqb (leAt 4 s 0) 0x0C000000) why.legacy _ e₁ in
@@ -49,6 +57,16 @@ module _ (s : List ℕ) where
         locator-within = ltb-false n 40 f₄;
         locator = same-true _ _ (not-false _ f₅);
         map-chunk = chunk-read mapName s (leAt 8 s (n - 8)) r e₅;
+      }
+
+  pub mapped-read : (r : Range) (es : List MapEntry) → mapRange s ≡ given r → mapEntries (dataIn s r) ≡ given es → Mapped s r es
+  mapped-read r es e f =
+      let x = range-read r e in
+      record {
+        first-mark = x .first-mark;
+        locator-within = x .locator-within;
+        locator = x .locator;
+        map-chunk = x .map-chunk;
         map-of = map-read _ es f;
       }
 

@@ -6,14 +6,14 @@ use mathlib.Core.List.{List, [], _∷_, _++_, map, reverse, append-assoc, append
 use native.Mathlib.Omega.{arith}
 use lib.Dec.{eqb, ltb}
 use borrow.Author.Tests.{ltb-true, ltb-false, lt-ltb, le-ltb, eqb-true, eqb-false, eq-eqb, ne-eqb}
-use Rattle.format.proofs.Answers.{refused≢given, refuseIf-given, andThen-given, given-inj, not-refused, go-on}
+use Rattle.format.proofs.Answers.{refused≢given, refused-inj, refuseIf-given, andThen-given, given-inj, not-refused, go-on, then-given}
 use Rattle.format.proofs.Means.{Means}
 use Rattle.format.proofs.Loops.{Told, told, stops-said, loop-said, below-in}
 use Rattle.format.proofs.Depths.{Ranked}
 use Rattle.format.proofs.Appended.{Each, one, Axial, walks-axial, loopOf, on-axes, not-custom}
 use Rattle.format.proofs.Below.{Fine, not-deepest, kids-fine, top-fine}
 use Rattle.format.proofs.Frames.{has-free, free-has}
-use Rattle.format.specs.Answer.{given, andThen}
+use Rattle.format.specs.Answer.{Answer, given, refused, andThen}
 use Rattle.format.specs.Bytes.{ascii}
 use Rattle.format.specs.Trees.{mostDepth}
 use Rattle.format.specs.Values.{level, fieldIn}
@@ -23,6 +23,7 @@ use Rattle.format.specs.Grammar.Values.{Field}
 use Rattle.format.specs.Grammar.Loops.{LoopAt}
 use Rattle.format.specs.Grammar.Loops.{Appended, first, deeper, larger, dropped, Walks, done, stops, spectral, appends, OnAxes, Free, Distinct, LoopsOf}
 use Rattle.format.specs.Grammar.Loops.{nil, cons}
+use Rattle.format.specs.Refused.Loops.{WalkFaults, here, below, behind-stop, behind-loop}
 use Rattle.format.specs.declared.Entry.{Entry}
 use Rattle.format.specs.declared.Axis.{Axis}
 use Rattle.format.specs.declared.Loop.{Loop}
@@ -58,7 +59,8 @@ is-append t c n (b ∷ bs) = go (ltb (b .nesting) n) refl (eqb (b .nesting) n) r
     go false p false q z r = dropped (ltb-false _ _ p) (λ e _. eqb-false _ _ q e)
 
 module _ (s : List ℕ) (es : List Entry) (D : ℕ → ℕ) (R : Ranked D 0 es) (M : Means s es) where
-  walks-walk : (left : ℕ) (is : List ℕ) (n : ℕ) (bs bs′ : List Built) → All (Fine D left) is → Walks s es is n bs bs′ → walkAll (λ i. walk left s es i n) is bs ≡ given bs′
+  pub walks-walk : (left : ℕ) (is : List ℕ) (n : ℕ) (bs bs′ : List Built) → All (Fine D left) is → Walks s es is n bs bs′
+      → walkAll (λ i. walk left s es i n) is bs ≡ given bs′
   unfolding walkAll walk walkOne andThen
   walks-walk left is n bs bs′ a done = refl
   walks-walk zero is n bs bs′ (more f a) (stops x w) = absurd (not-deepest f)
@@ -73,14 +75,17 @@ module _ (s : List ℕ) (es : List Entry) (D : ℕ → ℕ) (R : Ranked D 0 es) 
       rw (loop-said s es M i t c x, ne-eqb t 6 h, append-is t c n bs cs p, q, walks-walk m ks (suc n) cs ds (rw q at (kids-fine s es D R m i f)) k)
       (walks-walk (suc m) js n ds bs′ a w)
 
+  -- what the walk over the experiment levels `is` comes to
+  pub data Walked (is : List ℕ) (n : ℕ) (bs : List Built) : Answer (List Built) → Type 0 where
+    faulty : {k : ℕ} → WalkFaults s es is k → Walked is n bs (refused k)
+    whole : {bs′ : List Built} → Walks s es is n bs bs′ → Walked is n bs (given bs′)
+
   -- one level deeper than what is known
-  walks-more : (m : ℕ) → ((is : List ℕ) (n : ℕ) (bs bs′ : List Built) → All (Fine D m) is → walkAll (λ i. walk m s es i n) is bs ≡ given bs′ → Walks s es is n bs bs′)
-      → (is : List ℕ) (n : ℕ) (bs bs′ : List Built) → All (Fine D (suc m)) is → walkAll (λ i. walk (suc m) s es i n) is bs ≡ given bs′ → Walks s es is n bs bs′
-  unfolding walkAll walk Told
-  walks-more m ih [] n bs bs′ a e = rw (← given-inj e) done
-  walks-more m ih (i ∷ is) n bs bs′ (more f a) e =
-      let (cs, e₁, e₂) = andThen-given (walk (suc m) s es i n bs) (walkAll (λ i. walk (suc m) s es i n) is) e in
-      go (said s es i) (told s es M i) cs e₁ (walks-more m ih is n cs bs′ a e₂)
+  walked-more : (m : ℕ) → ((is : List ℕ) (n : ℕ) (bs : List Built) → All (Fine D m) is → Walked is n bs (walkAll (λ i. walk m s es i n) is bs))
+      → (is : List ℕ) (n : ℕ) (bs : List Built) → All (Fine D (suc m)) is → Walked is n bs (walkAll (λ i. walk (suc m) s es i n) is bs)
+  unfolding walkAll walk walkOne andThen Told
+  walked-more m ih [] n bs a = whole done
+  walked-more m ih (i ∷ is) n bs (more f a) = go (λ cs. walked-more m ih is n cs a) (said s es i) (told s es M i)
     where
       ks : List ℕ
       ks = childLevels s es (fieldIn s es i (ascii "ppNextLevelEx"))
@@ -88,23 +93,42 @@ module _ (s : List ℕ) (es : List Entry) (D : ℕ → ℕ) (R : Ranked D 0 es) 
       fine : All (Fine D m) ks
       fine = kids-fine s es D R m i f
 
-      kind : (t c : ℕ) → LoopAt s es i t c → (b : Bool) → eqb t 6 ≡ b → (cs : List Built)
-          → cond b (walkAll (λ i. walk m s es i n) ks bs) (walkAll (λ i. walk m s es i (suc n)) ks (append t c n bs)) ≡ given cs
-          → Walks s es is n cs bs′ → Walks s es (i ∷ is) n bs bs′
-      kind t c x true h cs e w = spectral (rw (eqb-true t 6 h) at x) (below-in s es M i .holds) (ih ks n bs cs fine e) w
-      kind t c x false h cs e w = appends x (eqb-false t 6 h) (is-append t c n bs) (below-in s es M i .holds) (ih ks (suc n) (append t c n bs) cs fine e) w
+      rest : List Built → Answer (List Built)
+      rest = walkAll (λ i. walk (suc m) s es i n) is
 
-      go : (x : Said) → Told s es i x → (cs : List Built) → walkOne (walk m s es) ks n bs x ≡ given cs
-          → Walks s es is n cs bs′ → Walks s es (i ∷ is) n bs bs′
-      go nothing q cs e w = stops q (rw (← given-inj e) at w)
-      go (wrong k) q cs e w = absurd (refused≢given e)
-      go (loop t c) q cs e w = kind t c q (eqb t 6) refl cs e w
+      -- behind the level i
+      behind : {cs : List Built} {x : Answer (List Built)} → Walked is n cs x → ((k : ℕ) → WalkFaults s es is k → WalkFaults s es (i ∷ is) k)
+          → ((ds : List Built) → Walks s es is n cs ds → Walks s es (i ∷ is) n bs ds) → Walked (i ∷ is) n bs x
+      behind (faulty q) f g = faulty (f _ q)
+      behind (whole w) f g = whole (g _ w)
 
-  walk-walks : (left : ℕ) (is : List ℕ) (n : ℕ) (bs bs′ : List Built) → All (Fine D left) is → walkAll (λ i. walk left s es i n) is bs ≡ given bs′ → Walks s es is n bs bs′
+      -- below it, and then behind it
+      below-it : {d : ℕ} {cs : List Built} {x : Answer (List Built)} → Walked ks d cs x → ((k : ℕ) → WalkFaults s es ks k → WalkFaults s es (i ∷ is) k)
+          → ((ds : List Built) → Walks s es ks d cs ds → Walked (i ∷ is) n bs (rest ds)) → Walked (i ∷ is) n bs (andThen x rest)
+      below-it (faulty q) f g = faulty (f _ q)
+      below-it (whole w) f g = g _ w
+
+      kind : ((cs : List Built) → Walked is n cs (rest cs)) → (t c : ℕ) → LoopAt s es i t c → (b : Bool) → eqb t 6 ≡ b
+          → Walked (i ∷ is) n bs (andThen (cond b (walkAll (λ i. walk m s es i n) ks bs) (walkAll (λ i. walk m s es i (suc n)) ks (append t c n bs))) rest)
+      kind later t c x true h =
+          let k = below-in s es M i .holds in
+          below-it (ih ks n bs fine) (λ _. below x k) λ cs w.
+          behind (later cs) (λ _. behind-loop x k w) λ ds v. spectral (rw (eqb-true t 6 h) at x) k w v
+      kind later t c x false h =
+          let k = below-in s es M i .holds in
+          below-it (ih ks (suc n) (append t c n bs) fine) (λ _. below x k) λ cs w.
+          behind (later cs) (λ _. behind-loop x k w) λ ds v. appends x (eqb-false t 6 h) (is-append t c n bs) k w v
+
+      go : ((cs : List Built) → Walked is n cs (rest cs)) → (x : Said) → Told s es i x → Walked (i ∷ is) n bs (andThen (walkOne (walk m s es) ks n bs x) rest)
+      go later nothing q = behind (later bs) (λ _. behind-stop q) λ ds. stops q
+      go later (wrong k) q = faulty (here q)
+      go later (loop t c) q = kind later t c q (eqb t 6) refl
+
+  pub walked : (left : ℕ) (is : List ℕ) (n : ℕ) (bs : List Built) → All (Fine D left) is → Walked is n bs (walkAll (λ i. walk left s es i n) is bs)
   unfolding walkAll
-  walk-walks zero [] n bs bs′ a e = rw (← given-inj e) done
-  walk-walks zero (i ∷ is) n bs bs′ (more f a) e = absurd (not-deepest f)
-  walk-walks (suc m) is n bs bs′ a e = walks-more m (walk-walks m) is n bs bs′ a e
+  walked zero [] n bs a = whole done
+  walked zero (i ∷ is) n bs (more f a) = absurd (not-deepest f)
+  walked (suc m) is n bs a = walked-more m (walked m) is n bs a
 
 -- ---- the appended loops, judged
 
@@ -148,15 +172,34 @@ read-judge ls (b ∷ bs) (cons o e x) d =
 -- ---- the experiment's level of a tree
 
 module _ (s : List ℕ) (es : List Entry) (D : ℕ → ℕ) (R : Ranked D 0 es) (M : Means s es) (i : ℕ) (there : Field s es 0 (ascii "SLxExperiment") (level i)) where
-  fine : All (Fine D mostDepth) (i ∷ [])
+  pub top-levels : All (Fine D mostDepth) (i ∷ [])
   unfolding ascii
-  fine = top-fine s es D R (ascii "SLxExperiment") i (M .of-field 0 _ _ (level i) there)
+  top-levels = top-fine s es D R (ascii "SLxExperiment") i (M .of-field 0 _ _ (level i) there)
+
+  -- what it comes to from the experiment's level on
+  top : Walked s es D R M (i ∷ []) 0 [] (walk mostDepth s es i 0 [])
+  unfolding walkAll
+  top = rw (then-given (walk mostDepth s es i 0 [])) at (walked s es D R M mostDepth (i ∷ []) 0 [] top-levels)
+
+  pub levels-read : (bs : List Built) → walk mostDepth s es i 0 [] ≡ given bs → Walks s es (i ∷ []) 0 [] bs
+  levels-read bs e = go (walk mostDepth s es i 0 []) top e
+    where
+      go : (x : Answer (List Built)) → Walked s es D R M (i ∷ []) 0 [] x → x ≡ given bs → Walks s es (i ∷ []) 0 [] bs
+      go (refused k) w e = absurd (refused≢given e)
+      go (given cs) (whole w) e = rw (given-inj e) at w
+
+  pub walk-fault-read : (k : ℕ) → walk mostDepth s es i 0 [] ≡ refused k → WalkFaults s es (i ∷ []) k
+  walk-fault-read k e = go (walk mostDepth s es i 0 []) top e
+    where
+      go : (x : Answer (List Built)) → Walked s es D R M (i ∷ []) 0 [] x → x ≡ refused k → WalkFaults s es (i ∷ []) k
+      go (refused m) (faulty q) e = rw (refused-inj e) at q
+      go (given cs) w e = absurd (refused≢given (sym e))
 
   pub loops-read : (ls : List Loop) → experiment s es i ≡ given ls → LoopsOf s es i ls
   unfolding experiment walkAll
   loops-read ls e =
       let (bs, e₁, e₂) = andThen-given (walk mostDepth s es i 0 []) _ e in
-      let w = walk-walks s es D R M mostDepth (i ∷ []) 0 [] bs fine (go-on (walk mostDepth s es i 0 []) _ bs e₁ refl) in
+      let w = levels-read bs e₁ in
       let (r₁, r₂, r₃) = judge-read [] (reverse bs) ls (walks-axial s es (i ∷ []) 0 bs w) nil e₂ in
       record {
         built = bs;
@@ -168,7 +211,7 @@ module _ (s : List ℕ) (es : List Entry) (D : ℕ → ℕ) (R : Ranked D 0 es) 
   pub read-loops : (ls : List Loop) → LoopsOf s es i ls → experiment s es i ≡ given ls
   unfolding experiment walkAll
   read-loops ls x =
-      let (bs, e₁, e₂) = andThen-given (walk mostDepth s es i 0 []) _ (walks-walk s es D R M mostDepth (i ∷ []) 0 [] (x .built) fine (x .walked)) in
+      let (bs, e₁, e₂) = andThen-given (walk mostDepth s es i 0 []) _ (walks-walk s es D R M mostDepth (i ∷ []) 0 [] (x .built) top-levels (x .walked)) in
       let e : ls ≡ map loopOf (reverse (x .built)) = on-axes (reverse (x .built)) ls (x .on-axes) in
       let j : judge [] (reverse (x .built)) ≡ given (map loopOf (reverse (x .built))) =
       read-judge [] (reverse (x .built)) (subst (OnAxes (reverse (x .built))) e (x .on-axes)) (subst Distinct e (x .distinct)) in

@@ -25,16 +25,20 @@ pub record Shape (a : Attributes) : Type 0 where
   pub row-most : leastRow a ≤ most64
   pub row-fits : leastRow a ≤ a .stride
 
+-- the sizes and bits that the level i of a tree states: not 11
+pub record Sized (s : List ℕ) (es : List Entry) (i : ℕ) (a : Attributes) : Type 0 where
+  pub level-there : Field s es 0 (ascii "SLxImageAttributes") (level i)
+  pub width : Unsigned s es i (ascii "uiWidth") (a .width)
+  pub row : Unsigned s es i (ascii "uiWidthBytes") (a .stride)
+  pub height : Unsigned s es i (ascii "uiHeight") (a .height)
+  pub components : Unsigned s es i (ascii "uiComp") (a .components)
+  pub bits : Unsigned s es i (ascii "uiBpcInMemory") (a .bits)
+  pub bits-u32 : a .bits < 2 ^ 32
+
 -- the attributes of a tree: none of 11 to 14, the plane product aside
 pub record AttributesOf (s : List ℕ) (es : List Entry) (a : Attributes) : Type 0 where
   pub at-level : ℕ
-  pub level-there : Field s es 0 (ascii "SLxImageAttributes") (level at-level)
-  pub width : Unsigned s es at-level (ascii "uiWidth") (a .width)
-  pub row : Unsigned s es at-level (ascii "uiWidthBytes") (a .stride)
-  pub height : Unsigned s es at-level (ascii "uiHeight") (a .height)
-  pub components : Unsigned s es at-level (ascii "uiComp") (a .components)
-  pub bits : Unsigned s es at-level (ascii "uiBpcInMemory") (a .bits)
-  pub bits-u32 : a .bits < 2 ^ 32
+  pub sized : Sized s es at-level a
   pub compression : Signed s es at-level (ascii "eCompression") (pos 2)
   pub bits-known : Bits (a .bits)
   pub shape : Shape a
