@@ -23,6 +23,7 @@ use Rattle.format.proofs.Sounds.{joined-sound}
 use Rattle.format.proofs.Frames.{seq-different}
 use Rattle.format.proofs.Names.{frame-number-unique}
 use Rattle.format.proofs.Triples.{seq-below}
+use Rattle.format.proofs.Counting.{frame-number, axis-count, frame-count}
 use Rattle.format.proofs.Planes.{plane-sample, plane-refused, plane-number, plane-accepted}
 use Rattle.format.proofs.TreeCalls.{tree-table, tree-refused, tree-number}
 use Rattle.format.proofs.ChannelCalls.{channels-table, channels-number}
@@ -102,6 +103,9 @@ third = record {
   frames-different = λ file table scene t z scene′ t′ z′ e w w′ q.
       let g = joined-sound file (summaryOrZero (opened file (roomIn (length table)))) (theirs file (roomIn (length table)) e .0) in
       seq-different (loopsOf (summaryOrZero (opened file (roomIn (length table))))) scene t z scene′ t′ z′ (g .loops-distinct) w w′ q;
+  number-is = frame-number;
+  axis-count-is = axis-count;
+  frame-count-is = frame-count;
   names-different = λ n m name x y. frame-number-unique x y;
   number-below = λ file u scene t z g w. seq-below (loopsOf u) scene t z (g .loops-distinct) w;
   plane-accepted = plane-accepted;

@@ -8,7 +8,7 @@ use lib.ListN.{length}
 use Rattle.format.specs.Bytes.{zeros, over}
 use Rattle.format.specs.Chunks.{dataIn}
 use Rattle.format.specs.Trees.{roomIn, tableBytes}
-use Rattle.format.specs.Frames.{seqIndex, frames}
+use Rattle.format.specs.Frames.{countOf, seqIndex, frames}
 use Rattle.format.specs.Summary.{loopsOf, zeroSummary}
 use Rattle.format.specs.Calls.Open.{openCall}
 use Rattle.format.specs.Calls.Plane.{planeCall}
@@ -17,7 +17,7 @@ use Rattle.format.specs.Calls.Channels.{channelsCall}
 use Rattle.format.specs.Calls.Register.{registerCall}
 use Rattle.format.specs.Calls.Border.{borderCall}
 use Rattle.format.specs.Grammar.Trees.{Tree, PassedIn}
-use Rattle.format.specs.Grammar.Frames.{FrameName}
+use Rattle.format.specs.Grammar.Frames.{FrameNumber, AxisCount, FrameCount, FrameName}
 use Rattle.format.specs.Grammar.File.{Joined}
 use Rattle.format.specs.Grammar.Table.{Enough}
 use Rattle.format.specs.Refused.Order.{First, FirstAt}
@@ -29,6 +29,8 @@ use Rattle.format.specs.Refused.Open.{OpenRefusal, openOrder}
 use Rattle.format.specs.Refused.Border.{BorderRefusal, borderOrder}
 use Rattle.format.specs.Refused.Register.{RegisterRefusal, registerOrder, Registered}
 use Rattle.format.specs.declared.Range.{Range}
+use Rattle.format.specs.declared.Axis.{Axis}
+use Rattle.format.specs.declared.Loop.{Loop}
 use Rattle.format.specs.declared.Entry.{Entry}
 use Rattle.format.specs.declared.Channel.{Channel}
 use Rattle.format.specs.declared.Summary.{Summary}
@@ -95,6 +97,10 @@ pub record ThirdDemand : Type 0 where
       → Within (loopsOf (openCall file table .summary)) scene t z → Within (loopsOf (openCall file table .summary)) scene′ t′ z′
       → seqIndex (loopsOf (openCall file table .summary)) scene t z ≡ seqIndex (loopsOf (openCall file table .summary)) scene′ t′ z′
       → (scene ≡ scene′) × (t ≡ t′) × (z ≡ z′)
+  -- the frame number, the count of an axis and the count of frames that these sentences speak of are those of the rules
+  pub number-is : (ls : List Loop) (scene t z : ℕ) → FrameNumber ls scene t z (seqIndex ls scene t z)
+  pub axis-count-is : (a : Axis) (ls : List Loop) → AxisCount a ls (countOf a ls)
+  pub frame-count-is : (ls : List Loop) → FrameCount ls (frames ls)
   -- different n have chunks of different names, and the n of a triple in range is one of the register's
   pub names-different : (n m : ℕ) (name : List ℕ) → FrameName n name → FrameName m name → n ≡ m
   pub number-below : (file : List ℕ) (u : Summary) (scene t z : ℕ) → Sound file u → Within (loopsOf u) scene t z
