@@ -12,6 +12,7 @@ use Rattle.format.specs.Calls.Open.{opened, openCall, summaryOrZero}
 use Rattle.format.specs.Calls.Border.{borderCall, planeAfter}
 use Rattle.format.specs.Grammar.File.{Joined}
 use Rattle.format.specs.Grammar.Table.{Enough}
+use Rattle.format.specs.Refused.Summary.{Blank}
 use Rattle.format.specs.Demands.{Refuses, FirstDemand, ThirdDemand}
 use Rattle.format.specs.declared.Summary.{Summary}
 use Rattle.format.proofs.Answers.{Numbered, NotZero, refusal}
@@ -34,6 +35,26 @@ use Rattle.format.proofs.Trees.{read-passed}
 
 -- ---- opening
 
+zero-blank : Blank zeroSummary
+unfolding zeroSummary
+zero-blank =
+    record {
+      loops = refl;
+      depth = refl;
+      width = refl;
+      stride = refl;
+      height = refl;
+      components = refl;
+      bits = refl;
+      map-start = refl;
+      map-len = refl;
+      calibration = refl;
+      x = refl;
+      y = refl;
+      class = refl;
+      z = refl;
+    }
+
 module _ (file : List ℕ) (room : ℕ) where
   -- a number of 0 comes with a summary
   opened-given : numberOf (opened file room) ≡ 0 → opened file room ≡ given (summaryOrZero (opened file room))
@@ -44,12 +65,12 @@ module _ (file : List ℕ) (room : ℕ) where
       go (refused n) (refusal h) e = absurd (omega arith)
       go (given u) h e = refl
 
-  refused-zero : Refuses (numberOf (opened file room)) → summaryOrZero (opened file room) ≡ zeroSummary
+  refused-blank : Refuses (numberOf (opened file room)) → Blank (summaryOrZero (opened file room))
   unfolding numberOf summaryOrZero
-  refused-zero f = go (opened file room) f
+  refused-blank f = go (opened file room) f
     where
-      go : (x : Answer Summary) → Refuses (numberOf x) → summaryOrZero x ≡ zeroSummary
-      go (refused n) f = refl
+      go : (x : Answer Summary) → Refuses (numberOf x) → Blank (summaryOrZero x)
+      go (refused n) f = zero-blank
       go (given u) f = absurd (f refl)
 
   theirs : numberOf (opened file room) ≡ 0 → Joined file (summaryOrZero (opened file room)) × Enough file room
@@ -74,7 +95,7 @@ pub first : FirstDemand
 unfolding openCall borderCall
 first = record {
   open-table = λ file table. refl;
-  open-refused = λ file table. refused-zero file (roomIn (length table));
+  open-refused = λ file table. refused-blank file (roomIn (length table));
   open-number = open-number;
   open-number-only = open-number-only;
   plane-number = plane-number;

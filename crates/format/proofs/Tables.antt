@@ -1,17 +1,21 @@
 -- The bytes of a tree's entries, what a table makes of a reading, and the entries that stand in it. Assumes nothing.
-use Prim.Native.Nat.{ℕ, zero, suc, _+_, _*_, _^_, _≤_, _<_}
+use Prim.Native.Nat.{ℕ, zero, suc, _+_, _-_, _*_, _/_, _%_, _^_, _≤_, _<_}
 use mathlib.Core.Path.{_≡_, refl, sym, ap, _∙_}
+use mathlib.Core.Option.{some}
 use mathlib.Core.List.{List, [], _∷_, _++_, append-assoc}
 use native.Mathlib.Omega.{arith}
-use native.Mathlib.Nat.{add-zero, zero-add}
+use native.Mathlib.Nat.{add-zero, zero-add, mod-lt, mod-eq-of-lt}
 use borrow.Author.Tests.{le-leb, lt-leb}
-use lib.ListN.{length, length-append}
-use lib.Seq.{sets, sets-eq}
-use Rattle.format.proofs.Bytes.{le-after, le-before, le-leBytes, leBytes-length, sets-append}
-use Rattle.format.specs.Bytes.{leAt, leBytes, over}
+use lib.Dec.{lit<}
+use lib.ListN.{length, drop, replicate, getD, getElem?, length-append, length-drop, length-replicate}
+use lib.Seq.{sets, sets-eq, getD-append-add, getD-drop}
+use Rattle.format.proofs.Answers.{none≢some}
+use Rattle.format.proofs.Bytes.{le-after, le-before, le-leBytes, leBytes-length, leBytes-low, sets-append}
+use Rattle.format.specs.Bytes.{leAt, leBytes, over, zeros}
 use Rattle.format.specs.Refusals as why
 use Rattle.format.specs.Trees.{fault, Read, within, entryBytes, tableBytes}
 use Rattle.format.specs.Table.{entryIn, firsts, entriesIn, Fit, AllFit}
+use Rattle.format.specs.Refused.Tree.{EntryAt, Tabled}
 use Rattle.format.specs.declared.Entry.{Entry}
 
 pub length-entry : (e : Entry) → length (entryBytes e) ≡ 48
@@ -53,29 +57,43 @@ module _ (room : ℕ) (r : Read) where
 
 -- ---- entries that are stored in a table are those that stand in it
 
--- the number in the first eight bytes, and past the first eight
-here : (v : ℕ) (ys : List ℕ) → v < 2 ^ 64 → leAt 8 (leBytes 8 v ++ ys) 0 ≡ v
-here v ys h = le-before 8 (leBytes 8 v) ys 0 (rw leBytes-length (omega arith)) ∙ le-leBytes 8 v h
+-- the number in the first eight bytes, of which they keep 64 bits, and past the first eight
+here : (v : ℕ) (ys : List ℕ) → leAt 8 (leBytes 8 v ++ ys) 0 ≡ v % 2 ^ 64
+here v ys =
+    le-before 8 (leBytes 8 v) ys 0 (rw leBytes-length (omega arith))
+    ∙ (ap (λ (l : List ℕ). leAt 8 l 0) (sym (leBytes-low 8 v)) ∙ le-leBytes 8 (v % 2 ^ 64) (mod-lt v (lit< tt)))
 
 past : (v : ℕ) (ys : List ℕ) (i : ℕ) → leAt 8 (leBytes 8 v ++ ys) (8 + i) ≡ leAt 8 ys i
 past v ys i = ap (λ (n : ℕ). leAt 8 (leBytes 8 v ++ ys) (n + i)) (sym (leBytes-length 8 v)) ∙ le-after 8 (leBytes 8 v) ys i
 
 -- the first entry, and the later ones
-entry-first : (e : Entry) (ys : List ℕ) → Fit e → entryIn (entryBytes e ++ ys) 0 ≡ e
-unfolding entryIn entryBytes
-entry-first e ys f =
+entry-here : (e : Entry) (ys : List ℕ) → EntryAt (entryBytes e ++ ys) 0 e
+unfolding entryBytes
+entry-here e ys =
     let a = e .kind in
     let b = e .name in
     let c = e .units in
     let d = e .value in
     let g = e .size in
-    let p0 : leAt 8 (entryBytes e ++ ys) 0 ≡ a = simp append-assoc (here a _ (f .kind)) in
-    let p1 : leAt 8 (entryBytes e ++ ys) 8 ≡ b = simp append-assoc (past a _ 0 ∙ here b _ (f .name)) in
-    let p2 : leAt 8 (entryBytes e ++ ys) 16 ≡ c = simp append-assoc (past a _ 8 ∙ past b _ 0 ∙ here c _ (f .units)) in
-    let p3 : leAt 8 (entryBytes e ++ ys) 24 ≡ d = simp append-assoc (past a _ 16 ∙ past b _ 8 ∙ past c _ 0 ∙ here d _ (f .value)) in
-    let p4 : leAt 8 (entryBytes e ++ ys) 32 ≡ g = simp append-assoc (past a _ 24 ∙ past b _ 16 ∙ past c _ 8 ∙ past d _ 0 ∙ here g _ (f .size)) in
-    let p5 : leAt 8 (entryBytes e ++ ys) 40 ≡ e .parent =
-    simp append-assoc (past a _ 32 ∙ past b _ 24 ∙ past c _ 16 ∙ past d _ 8 ∙ past g _ 0 ∙ here (e .parent) ys (f .parent)) in
+    record {
+      kind = simp append-assoc (here a _);
+      name = simp append-assoc (past a _ 0 ∙ here b _);
+      units = simp append-assoc (past a _ 8 ∙ past b _ 0 ∙ here c _);
+      value = simp append-assoc (past a _ 16 ∙ past b _ 8 ∙ past c _ 0 ∙ here d _);
+      size = simp append-assoc (past a _ 24 ∙ past b _ 16 ∙ past c _ 8 ∙ past d _ 0 ∙ here g _);
+      parent = simp append-assoc (past a _ 32 ∙ past b _ 24 ∙ past c _ 16 ∙ past d _ 8 ∙ past g _ 0 ∙ here (e .parent) ys);
+    }
+
+entry-first : (e : Entry) (ys : List ℕ) → Fit e → entryIn (entryBytes e ++ ys) 0 ≡ e
+unfolding entryIn
+entry-first e ys f =
+    let x = entry-here e ys in
+    let p0 = x .kind ∙ mod-eq-of-lt (f .kind) in
+    let p1 = x .name ∙ mod-eq-of-lt (f .name) in
+    let p2 = x .units ∙ mod-eq-of-lt (f .units) in
+    let p3 = x .value ∙ mod-eq-of-lt (f .value) in
+    let p4 = x .size ∙ mod-eq-of-lt (f .size) in
+    let p5 = x .parent ∙ mod-eq-of-lt (f .parent) in
     λ k. record { kind = p0 k; name = p1 k; units = p2 k; value = p3 k; size = p4 k; parent = p5 k }
 
 entry-later : (e : Entry) (ys : List ℕ) (i : ℕ) → entryIn (entryBytes e ++ ys) (suc i) ≡ entryIn ys i
@@ -108,3 +126,89 @@ entries-back (e ∷ es) ys f =
     ap (λ (x : List ℕ). entriesIn x (suc (length es))) t ∙ firsts-cons (length es) (entryIn (entryBytes e ++ (tableBytes es ++ ys)))
     ∙ ap (λ (x : Entry). x ∷ firsts (length es) (λ i. entryIn (entryBytes e ++ (tableBytes es ++ ys)) (suc i))) a
     ∙ ap (λ (l : List Entry). e ∷ l) (b ∙ entries-back es ys (f .1))
+
+-- ---- what an accepted tree leaves in the table
+
+-- an entry behind another
+entry-behind : (x e : Entry) (ys : List ℕ) (i : ℕ) → EntryAt ys i e → EntryAt (entryBytes x ++ ys) (48 + i) e
+entry-behind x e ys i a =
+    record {
+      kind = after i ∙ a .kind;
+      name = at 8 ∙ a .name;
+      units = at 16 ∙ a .units;
+      value = at 24 ∙ a .value;
+      size = at 32 ∙ a .size;
+      parent = at 40 ∙ a .parent;
+    }
+  where
+    after : (j : ℕ) → leAt 8 (entryBytes x ++ ys) (48 + j) ≡ leAt 8 ys j
+    after j = ap (λ (n : ℕ). leAt 8 (entryBytes x ++ ys) (n + j)) (sym (length-entry x)) ∙ le-after 8 (entryBytes x) ys j
+
+    at : (j : ℕ) → leAt 8 (entryBytes x ++ ys) (48 + i + j) ≡ leAt 8 ys (i + j)
+    at j = let z : 48 + i + j ≡ 48 + (i + j) = omega arith in rw z (after (i + j))
+
+entry-stands : (es : List Entry) (ys : List ℕ) (k : ℕ) (e : Entry) → getElem? es k ≡ some e → EntryAt (tableBytes es ++ ys) (48 * k) e
+unfolding tableBytes
+entry-stands [] ys k e q = absurd (none≢some q)
+entry-stands (x ∷ es) ys zero e q =
+    let z : x ≡ e = cc in
+    rw (← z, append-assoc) (entry-here x (tableBytes es ++ ys))
+entry-stands (x ∷ es) ys (suc k) e q =
+    let z : 48 * suc k ≡ 48 + 48 * k = omega arith in
+    rw (z, append-assoc) (entry-behind x e (tableBytes es ++ ys) (48 * k) (entry-stands es ys k e q))
+
+-- each is a byte
+AllBytes : List ℕ → Type 0
+AllBytes l = (i : ℕ) → getD l i 0 < 256
+
+bytes-append : (xs ys : List ℕ) → AllBytes xs → AllBytes ys → AllBytes (xs ++ ys)
+unfolding AllBytes
+bytes-append [] ys a b i = b i
+bytes-append (x ∷ xs) ys a b zero = a 0
+bytes-append (x ∷ xs) ys a b (suc i) = bytes-append xs ys (λ j. a (suc j)) b i
+
+le-bytes : (n v : ℕ) → AllBytes (leBytes n v)
+unfolding AllBytes leBytes
+le-bytes zero v i = omega arith
+le-bytes (suc n) v zero = omega arith
+le-bytes (suc n) v (suc i) = le-bytes n (v / 256) i
+
+table-bytes : (es : List Entry) → AllBytes (tableBytes es)
+unfolding tableBytes entryBytes
+table-bytes [] = unfold AllBytes in λ i. omega arith
+table-bytes (e ∷ es) =
+    let a = leBytes 8 (e .kind) in
+    let b = leBytes 8 (e .name) in
+    let c = leBytes 8 (e .units) in
+    let d = leBytes 8 (e .value) in
+    let f = leBytes 8 (e .size) in
+    bytes-append (entryBytes e) (tableBytes es)
+    (bytes-append (a ++ b ++ c ++ d ++ f) (leBytes 8 (e .parent))
+    (bytes-append (a ++ b ++ c ++ d) f
+    (bytes-append (a ++ b ++ c) d
+    (bytes-append (a ++ b) c (bytes-append a b (le-bytes 8 (e .kind)) (le-bytes 8 (e .name))) (le-bytes 8 (e .units)))
+    (le-bytes 8 (e .value))) (le-bytes 8 (e .size))) (le-bytes 8 (e .parent))) (table-bytes es)
+
+zeros-at : (n i : ℕ) → _≡_ {A = ℕ} (getD (replicate n 0) i 0) 0
+zeros-at zero i = refl
+zeros-at (suc n) zero = refl
+zeros-at (suc n) (suc i) = zeros-at n i
+
+pub tabled : (es : List Entry) (n : ℕ) → 48 * length es ≤ n → Tabled es n (over (tableBytes es) (zeros n))
+unfolding over zeros
+tabled es n h =
+    record {
+      entry = entry-stands es rest;
+      fits = h;
+      rest-zero = λ i l.
+          let z : i ≡ length (tableBytes es) + (i - 48 * length es) = rw length-table (omega arith) in
+          rw z (getD-append-add (tableBytes es) rest (i - 48 * length es) 0 ∙ zero-rest (i - 48 * length es));
+      bytes = unfold AllBytes in bytes-append (tableBytes es) rest (table-bytes es) λ i. rw (zero-rest i) (omega arith);
+      length-kept = rw (length-append, length-drop, length-replicate, length-table) (omega arith);
+    }
+  where
+    rest : List ℕ
+    rest = drop (length (tableBytes es)) (replicate n 0)
+
+    zero-rest : (i : ℕ) → getD rest i 0 ≡ 0
+    zero-rest i = getD-drop (length (tableBytes es)) (replicate n 0) i 0 ∙ zeros-at n (length (tableBytes es) + i)

@@ -16,12 +16,13 @@ use Rattle.format.proofs.Chunks.{chunk-read, chunk-numbered}
 use Rattle.format.proofs.Maps.{map-read, read-map, map-numbered}
 use Rattle.format.proofs.Summaries.{sound-read, unsound}
 use Rattle.format.proofs.Trees.{treeFaults, tree-read, fault-read, read-fault, fault-number, passed-read, read-passed, at≢fault, fault-inj}
+use Rattle.format.proofs.Tables.{tabled}
 use Rattle.format.proofs.Entries.{entry-read, read-entry, entry-chunk, data-read, read-data}
 use Rattle.format.specs.Answer.{Answer, refused, given, orRefuse, numberOf}
-use Rattle.format.specs.Bytes.{over, zeros}
+use Rattle.format.specs.Bytes.{zeros}
 use Rattle.format.specs.Refusals as why
 use Rattle.format.specs.Map.{MapEntry, mapEntries, offsetOf, namedChunk}
-use Rattle.format.specs.Trees.{Stop, at, fault as faultAt, Read, treeIn, roomIn, within, wholeTree, treeEntries, namedTree, tableBytes}
+use Rattle.format.specs.Trees.{Stop, at, fault as faultAt, Read, treeIn, roomIn, within, wholeTree, treeEntries, namedTree}
 use Rattle.format.specs.Summary.{badSummary, mapOf}
 use Rattle.format.specs.Calls.Tree.{treeNamed, treeBy, treeCall}
 use Rattle.format.specs.Grammar.Lists.{In, here, behind}
@@ -29,7 +30,7 @@ use Rattle.format.specs.Grammar.Map.{MapOf}
 use Rattle.format.specs.Grammar.Trees.{Tree, Faulty}
 use Rattle.format.specs.Refused.Order.{First}
 use Rattle.format.specs.Refused.Summary.{Sound}
-use Rattle.format.specs.Refused.Tree.{NameEntry, NameData, TableShort, TreeRefusal, summary, map, missing, chunk, table, fault, treeOrder}
+use Rattle.format.specs.Refused.Tree.{NameEntry, NameData, TableShort, TreeRefusal, summary, map, missing, chunk, table, fault, treeOrder, Tabled}
 use Rattle.format.specs.declared.Range.{Range}
 use Rattle.format.specs.declared.Entry.{Entry}
 use Rattle.format.specs.declared.Summary.{Summary}
@@ -175,7 +176,7 @@ module _ (s : List ℕ) (u : Summary) (name bytes : List ℕ) where
 
   -- ---- the table
 
-  whole : (es : List Entry) → treeNamed s u name (roomIn (length bytes)) ≡ given es → (r : Range) × NameData s u name r × Tree s r es
+  whole : (es : List Entry) → treeNamed s u name (roomIn (length bytes)) ≡ given es → (r : Range) × NameData s u name r × Tree s r es × (length es ≤ roomIn (length bytes))
   unfolding treeNamed namedTree
   whole es e =
       let (f₁, e₁) = refuseIf-given (badSummary s u) why.summary _ e in
@@ -183,17 +184,18 @@ module _ (s : List ℕ) (u : Summary) (name bytes : List ℕ) where
       let (r, f₃, e₃) = andThen-given (namedChunk s (mapOf s u) ms name) _ e₂ in
       let (h, p, q) = whole-read (roomIn (length bytes)) (treeIn s r) es e₃ in
       let x = tree-read s r p (ap (λ (z : Read). z .stop) q) in
-      (r, data-read s u ms f₂ name r f₃, subst (Tree s r) (ap (λ (z : Read). z .entries) q) x)
+      let e₄ : treeIn s r .entries ≡ es = ap (λ (z : Read). z .entries) q in
+      (r, data-read s u ms f₂ name r f₃, subst (Tree s r) e₄ x, rw e₄ at h)
 
   -- Where the tree call gives 0, the table has the entries of the tree under the name, and zeros behind them.
   pub tree-table : treeCall s u name bytes .number ≡ 0
-      → (r : Range) × (es : List Entry) × NameData s u name r × Tree s r es × (treeCall s u name bytes .buffer ≡ over (tableBytes es) (zeros (length bytes)))
+      → (r : Range) × (es : List Entry) × NameData s u name r × Tree s r es × Tabled es (length bytes) (treeCall s u name bytes .buffer)
   unfolding treeCall treeBy
   tree-table e =
       let x = treeNamed s u name (roomIn (length bytes)) in
       let (es, q) = decides-given (nonzero treeOrder refl) (tree-decides s u name (roomIn (length bytes))) (sym (by-number (length bytes) x) ∙ e) in
-      let (r, y, z) = whole es q in
-      (r, es, y, z, ap (λ (a : Answer (List Entry)). treeBy (length bytes) a .buffer) q)
+      let (r, y, z, h) = whole es q in
+      (r, es, y, z, subst (λ (a : Answer (List Entry)). Tabled es (length bytes) (treeBy (length bytes) a .buffer)) (sym q) (tabled es (length bytes) (omega arith)))
 
   -- Where it does not, the table is zero.
   pub tree-refused : (treeCall s u name bytes .number ≡ 0 → ⊥) → treeCall s u name bytes .buffer ≡ zeros (length bytes)

@@ -5,11 +5,11 @@ use mathlib.Core.Path.{_≡_}
 use mathlib.Core.Logic.{_↔_}
 use mathlib.Core.List.{List}
 use lib.ListN.{length}
-use Rattle.format.specs.Bytes.{zeros, over}
+use Rattle.format.specs.Bytes.{zeros}
 use Rattle.format.specs.Chunks.{dataIn}
-use Rattle.format.specs.Trees.{roomIn, tableBytes}
+use Rattle.format.specs.Trees.{roomIn}
 use Rattle.format.specs.Frames.{countOf, seqIndex, frames}
-use Rattle.format.specs.Summary.{loopsOf, zeroSummary}
+use Rattle.format.specs.Summary.{loopsOf}
 use Rattle.format.specs.Calls.Open.{openCall}
 use Rattle.format.specs.Calls.Plane.{planeCall}
 use Rattle.format.specs.Calls.Tree.{treeCall}
@@ -21,9 +21,9 @@ use Rattle.format.specs.Grammar.Frames.{FrameNumber, AxisCount, FrameCou
 use Rattle.format.specs.Grammar.File.{Joined}
 use Rattle.format.specs.Grammar.Table.{Enough}
 use Rattle.format.specs.Refused.Order.{First, FirstAt}
-use Rattle.format.specs.Refused.Summary.{Sound}
+use Rattle.format.specs.Refused.Summary.{Sound, Blank}
 use Rattle.format.specs.Refused.Plane.{Within, FrameData, PlaneRefusal, planeOrder, Copied}
-use Rattle.format.specs.Refused.Tree.{NameData, TreeRefusal, treeOrder}
+use Rattle.format.specs.Refused.Tree.{NameData, TreeRefusal, treeOrder, Tabled}
 use Rattle.format.specs.Refused.Channels.{ChannelsRefusal, channelsOrder, Recorded, Emptied}
 use Rattle.format.specs.Refused.Open.{OpenRefusal, openOrder}
 use Rattle.format.specs.Refused.Border.{BorderRefusal, borderOrder}
@@ -47,7 +47,7 @@ None Refusal = (n : ℕ) → Refusal n → ⊥
 -- holds in the call's order.
 pub record FirstDemand : Type 0 where
   pub open-table : (file table : List ℕ) → openCall file table .table ≡ zeros (length table)
-  pub open-refused : (file table : List ℕ) → Refuses (openCall file table .number) → openCall file table .summary ≡ zeroSummary
+  pub open-refused : (file table : List ℕ) → Refuses (openCall file table .number) → Blank (openCall file table .summary)
   pub open-number : (file table : List ℕ) → FirstAt (OpenRefusal file (roomIn (length table))) openOrder (openCall file table .number)
   pub open-number-only : (file : List ℕ) (room n m : ℕ) → FirstAt (OpenRefusal file room) openOrder n → FirstAt (OpenRefusal file room) openOrder m → n ≡ m
   pub plane-number : (file : List ℕ) (u : Summary) (scene t c z : ℕ) (samples : List ℕ)
@@ -60,8 +60,7 @@ pub record FirstDemand : Type 0 where
       → Refuses (treeCall file u name table .number) → treeCall file u name table .buffer ≡ zeros (length table)
   -- "One entry per record read, in file order; the rest zero."
   pub tree-table : (file : List ℕ) (u : Summary) (name table : List ℕ) → treeCall file u name table .number ≡ 0
-      → (r : Range) × (es : List Entry) × NameData file u name r × Tree file r es
-      × (treeCall file u name table .buffer ≡ over (tableBytes es) (zeros (length table)))
+      → (r : Range) × (es : List Entry) × NameData file u name r × Tree file r es × Tabled es (length table) (treeCall file u name table .buffer)
   pub channels-number : (file : List ℕ) (u : Summary) (table : List ℕ) (row : List Channel)
       → First (ChannelsRefusal file u (roomIn (length table)) (length row)) channelsOrder (channelsCall file u table row .number)
   pub channels-table : (file : List ℕ) (u : Summary) (table : List ℕ) (row : List Channel) → channelsCall file u table row .table ≡ zeros (length table)

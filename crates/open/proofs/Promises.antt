@@ -7,11 +7,11 @@ use lib.ListN.{length}
 use Rattle.format.specs.Bytes.{zeros}
 use Rattle.format.specs.Trees.{roomIn}
 use Rattle.format.specs.Frames.{seqIndex}
-use Rattle.format.specs.Summary.{loopsOf, zeroSummary}
+use Rattle.format.specs.Summary.{loopsOf}
 use Rattle.format.specs.Calls.Open.{opened, openCall}
 use Rattle.format.specs.Grammar.File.{Joined}
 use Rattle.format.specs.Grammar.Table.{Enough}
-use Rattle.format.specs.Refused.Summary.{Sound}
+use Rattle.format.specs.Refused.Summary.{Sound, Blank}
 use Rattle.format.specs.Refused.Plane.{Within}
 use Rattle.format.specs.Demands.{Refuses}
 use Rattle.format.specs.declared.Summary.{Summary}
@@ -23,7 +23,7 @@ module _ (s t : List ℕ) where
   -- the sentences that speak of a number and a summary
   abbrev Sentences : ℕ → Summary → Type 0
   Sentences n u =
-      (Refuses n → u ≡ zeroSummary) × (((n ≡ 0) ↔ ((v : Summary) × Joined s v × Enough s (roomIn (length t)))) × ((n ≡ 0 → Joined s u) × ((n ≡ 0 → Sound s u)
+      (Refuses n → Blank u) × (((n ≡ 0) ↔ ((v : Summary) × Joined s v × Enough s (roomIn (length t)))) × ((n ≡ 0 → Joined s u) × ((n ≡ 0 → Sound s u)
       × ((scene t z scene′ t′ z′ : ℕ) → n ≡ 0 → Within (loopsOf u) scene t z → Within (loopsOf u) scene′ t′ z′
       → seqIndex (loopsOf u) scene t z ≡ seqIndex (loopsOf u) scene′ t′ z′ → (scene ≡ scene′) × (t ≡ t′) × (z ≡ z′)))))
 

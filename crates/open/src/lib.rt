@@ -42,7 +42,7 @@ ghost use Rattle.format.specs.Summary.{inThree, summaryOf, zeroSummary, loopsOf
 ghost use Rattle.format.specs.Calls.Open.{opened, openCall};
 ghost use Rattle.format.specs.Grammar.File.{Joined};
 ghost use Rattle.format.specs.Grammar.Table.{Enough};
-ghost use Rattle.format.specs.Refused.Summary.{Sound};
+ghost use Rattle.format.specs.Refused.Summary.{Sound, Blank};
 ghost use Rattle.format.specs.Refused.Plane.{Within};
 ghost use Rattle.format.specs.Demands.{Refuses};
 ghost use Rattle.format.specs.declared.Loop.{Loop};
@@ -290,7 +290,7 @@ pub fn open(file: &[u8], table: &mut [u8]) -> Opened
     ensures summary { λ r. ⌜ r .summary ≡ openCall (now (file .entry)) (now (table .entry)) .summary ⌝ }
     ensures table { λ _. ⌜ now (table .exit) ≡ openCall (now (file .entry)) (now (table .entry)) .table ⌝ }
     ensures zeroed { λ _. ⌜ now (table .exit) ≡ zeros (length (now (table .entry))) ⌝ }
-    ensures refused { λ r. ⌜ (Refuses (r .number) → r .summary ≡ zeroSummary) ⌝ }
+    ensures refused { λ r. ⌜ (Refuses (r .number) → Blank (r .summary)) ⌝ }
     ensures exactly { λ r. ⌜ ((r .number ≡ 0) ↔ ((u : Summary) × Joined (now (file .entry)) u × Enough (now (file .entry)) (roomIn (length (now (table .entry)))))) ⌝ }
     ensures theirs { λ r. ⌜ (r .number ≡ 0 → Joined (now (file .entry)) (r .summary)) ⌝ }
     ensures sound { λ r. ⌜ (r .number ≡ 0 → Sound (now (file .entry)) (r .summary)) ⌝ }

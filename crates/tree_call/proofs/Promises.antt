@@ -14,7 +14,7 @@ use Rattle.format.specs.Calls.Tree.{treeNamed, treeBy, treeCall}
 use Rattle.format.specs.Demands.{Refuses, None}
 use Rattle.format.specs.Grammar.Trees.{Tree}
 use Rattle.format.specs.Refused.Order.{First}
-use Rattle.format.specs.Refused.Tree.{NameData, TreeRefusal, treeOrder}
+use Rattle.format.specs.Refused.Tree.{NameData, TreeRefusal, treeOrder, Tabled}
 use Rattle.format.specs.declared.Range.{Range}
 use Rattle.format.specs.declared.Entry.{Entry}
 use Rattle.format.specs.declared.Summary.{Summary}
@@ -45,7 +45,7 @@ module _ (s : List ℕ) (u : Summary) (name bytes : List ℕ) where
   abbrev pub Promised : ℕ → List ℕ → Type 0
   Promised n out =
       (n ≡ treeCall s u name bytes .number) × ((out ≡ treeCall s u name bytes .buffer) × (First R treeOrder n × (((n ≡ 0) ↔ None R)
-      × ((n ≡ 0 → (p : Range) × (es : List Entry) × NameData s u name p × Tree s p es × (out ≡ over (tableBytes es) (zeros (length bytes))))
+      × ((n ≡ 0 → (p : Range) × (es : List Entry) × NameData s u name p × Tree s p es × Tabled es (length bytes) out)
       × (Refuses n → out ≡ zeros (length bytes))))))
 
   promised : {n : ℕ} {out : List ℕ} → n ≡ treeCall s u name bytes .number → out ≡ treeCall s u name bytes .buffer → Promised n out

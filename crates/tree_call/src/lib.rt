@@ -11,12 +11,12 @@ ghost use mathlib.Core.Path.{_≡_};
 ghost use mathlib.Core.Logic.{_↔_};
 ghost use mathlib.Core.List.{List};
 ghost use lib.ListN.{length};
-ghost use Rattle.format.specs.Bytes.{over, zeros};
-ghost use Rattle.format.specs.Trees.{roomIn, tableBytes};
+ghost use Rattle.format.specs.Bytes.{zeros};
+ghost use Rattle.format.specs.Trees.{roomIn};
 ghost use Rattle.format.specs.Calls.Tree.{treeNamed, treeCall};
 ghost use Rattle.format.specs.Grammar.Trees.{Tree};
 ghost use Rattle.format.specs.Refused.Order.{First};
-ghost use Rattle.format.specs.Refused.Tree.{NameData, TreeRefusal, treeOrder};
+ghost use Rattle.format.specs.Refused.Tree.{NameData, TreeRefusal, treeOrder, Tabled};
 ghost use Rattle.format.specs.Demands.{Refuses, None};
 ghost use Rattle.format.specs.declared.Range.{Range};
 ghost use Rattle.format.specs.declared.Entry.{Entry};
@@ -50,7 +50,7 @@ pub fn tree(file: &[u8], u: Summary, name: &[u8], table: &mut [u8]) -> u32
     ensures buffer { λ _. ⌜ now (table .exit) ≡ treeCall (now (file .entry)) u (now (name .entry)) (now (table .entry)) .buffer ⌝ }
     ensures first { λ r. ⌜ First (TreeRefusal (now (file .entry)) u (now (name .entry)) (roomIn (length (now (table .entry))))) treeOrder r ⌝ }
     ensures accepted { λ r. ⌜ ((r ≡ 0) ↔ None (TreeRefusal (now (file .entry)) u (now (name .entry)) (roomIn (length (now (table .entry)))))) ⌝ }
-    ensures entries { λ r. ⌜ (r ≡ 0 → (p : Range) × (es : List Entry) × NameData (now (file .entry)) u (now (name .entry)) p × Tree (now (file .entry)) p es × (now (table .exit) ≡ over (tableBytes es) (zeros (length (now (table .entry)))))) ⌝ }
+    ensures entries { λ r. ⌜ (r ≡ 0 → (p : Range) × (es : List Entry) × NameData (now (file .entry)) u (now (name .entry)) p × Tree (now (file .entry)) p es × Tabled es (length (now (table .entry))) (now (table .exit))) ⌝ }
     ensures cleared { λ r. ⌜ (Refuses r → now (table .exit) ≡ zeros (length (now (table .entry)))) ⌝ }
 {
     match tree_named(file, u, name, table) {

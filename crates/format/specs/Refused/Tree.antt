@@ -1,6 +1,10 @@
 -- The tree call: "20, 5, 11, 4, tree". Of a tree's own refusals 18 comes before a later fault, and of the others a tree has at most one.
-use Prim.Native.Nat.{ℕ, _<_}
+use Prim.Native.Nat.{ℕ, _+_, _*_, _%_, _^_, _≤_, _<_}
+use mathlib.Core.Path.{_≡_}
+use mathlib.Core.Option.{some}
 use mathlib.Core.List.{List, [], _∷_}
+use lib.ListN.{length, getD, getElem?}
+use Rattle.format.specs.Bytes.{leAt}
 use Rattle.format.specs.Map.{MapEntry}
 use Rattle.format.specs.Summary.{mapOf}
 use Rattle.format.specs.Grammar.Chunks.{Chunk}
@@ -9,6 +13,7 @@ use Rattle.format.specs.Grammar.Trees.{Faulty, PassedIn}
 use Rattle.format.specs.Refused.Summary.{Sound}
 use Rattle.format.specs.Refusals as why
 use Rattle.format.specs.declared.Range.{Range}
+use Rattle.format.specs.declared.Entry.{Entry}
 use Rattle.format.specs.declared.Summary.{Summary}
 
 -- the map of the summary u has the name at the offset o
@@ -43,3 +48,20 @@ pub data TreeRefusal (s : List ℕ) (u : Summary) (name : List ℕ) (room : ℕ)
 abbrev pub treeOrder : List ℕ
 treeOrder =
     why.summary ∷ why.map ∷ why.missing ∷ why.chunk ∷ why.table ∷ why.cut ∷ why.kind ∷ why.packed ∷ why.deep ∷ why.level ∷ []
+
+-- the entry e stands in the table from i on: "Entries are six u64: type, name position, name units kept, value position .., value bytes .., parent entry plus one"
+pub record EntryAt (table : List ℕ) (i : ℕ) (e : Entry) : Type 0 where
+  pub kind : leAt 8 table i ≡ e .kind % 2 ^ 64
+  pub name : leAt 8 table (i + 8) ≡ e .name % 2 ^ 64
+  pub units : leAt 8 table (i + 16) ≡ e .units % 2 ^ 64
+  pub value : leAt 8 table (i + 24) ≡ e .value % 2 ^ 64
+  pub size : leAt 8 table (i + 32) ≡ e .size % 2 ^ 64
+  pub parent : leAt 8 table (i + 40) ≡ e .parent % 2 ^ 64
+
+-- `out` is what an accepted tree of the entries es leaves in a table of n bytes: "One entry per record read, in file order; the rest zero."
+pub record Tabled (es : List Entry) (n : ℕ) (out : List ℕ) : Type 0 where
+  pub entry : (k : ℕ) (e : Entry) → getElem? es k ≡ some e → EntryAt out (48 * k) e
+  pub fits : 48 * length es ≤ n
+  pub rest-zero : (i : ℕ) → 48 * length es ≤ i → getD out i 0 ≡ 0
+  pub bytes : (i : ℕ) → getD out i 0 < 256
+  pub length-kept : length out ≡ n
