@@ -100,7 +100,7 @@ module _ (s : List ℕ) (u : Summary) (bytes : List ℕ) (row : List Channel) wh
   abbrev pub Filled : ℕ → List ℕ → List Channel → Type 0
   Filled k ts zs =
       (k ≡ channelsCall s u bytes row .number) × (ts ≡ channelsCall s u bytes row .table) × (zs ≡ channelsCall s u bytes row .row) × (ts ≡ zeros (length bytes))
-      × First Whole channelsOrder k × ((k ≡ 0) ↔ None Whole) × (Refuses k → Emptied row zs) × (k ≡ 0 → Recorded s u row zs)
+      × First Whole channelsOrder k × ((k ≡ 0) ↔ None Whole) × (Refuses k → Emptied (length row) zs) × (k ≡ 0 → Recorded s u (length row) zs)
 
   pub whole-row : {t : List ℕ} {p : Prepared} {ts : List ℕ} {zs : List Channel} → Ready s t (length row) (u .components) (recordsOf s u (roomIn (length bytes)) (length row)) p
       → ts ≡ zeros (length bytes) → zs ≡ fitted (length row) (ahead s t (p .planes)) → Filled (p .number) ts zs

@@ -179,8 +179,8 @@ pub fn channels(file: &[u8], u: Summary, table: &mut [u8], row: &mut [Channel]) 
     ensures cleared { λ _. ⌜ now (table .exit) ≡ zeros (length (now (table .entry))) ⌝ }
     ensures first { λ r. ⌜ First (ChannelsRefusal (now (file .entry)) u (roomIn (length (now (table .entry)))) (length (now (row .entry)))) channelsOrder r ⌝ }
     ensures accepted { λ r. ⌜ ((r ≡ 0) ↔ None (ChannelsRefusal (now (file .entry)) u (roomIn (length (now (table .entry)))) (length (now (row .entry))))) ⌝ }
-    ensures emptied { λ r. ⌜ (Refuses r → Emptied (now (row .entry)) (now (row .exit))) ⌝ }
-    ensures records { λ r. ⌜ (r ≡ 0 → Recorded (now (file .entry)) u (now (row .entry)) (now (row .exit))) ⌝ }
+    ensures emptied { λ r. ⌜ (Refuses r → Emptied (length (now (row .entry))) (now (row .exit))) ⌝ }
+    ensures records { λ r. ⌜ (r ≡ 0 → Recorded (now (file .entry)) u (length (now (row .entry))) (now (row .exit))) ⌝ }
 {
     let p = prepare(file, u, table, row.len());
     let first = p.planes;

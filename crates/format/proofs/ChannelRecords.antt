@@ -175,13 +175,13 @@ same-rows (x ∷ xs) [] l f = absurd (omega arith)
 same-rows (x ∷ xs) (y ∷ ys) l f = λ t. f 0 x y refl refl t ∷ same-rows xs ys (omega arith) (λ i. f (suc i)) t
 
 -- No two rows are what an accepted call leaves.
-pub recorded-once : (s : List ℕ) (u : Summary) (row out out′ : List Channel) → Recorded s u row out → Recorded s u row out′ → out ≡ out′
-recorded-once s u row out out′ x y =
+pub recorded-once : (s : List ℕ) (u : Summary) (n : ℕ) (out out′ : List Channel) → Recorded s u n out → Recorded s u n out′ → out ≡ out′
+recorded-once s u n out out′ x y =
     same-rows out out′ (x .length-kept ∙ sym (y .length-kept)) λ i c d e f. record-at-once s u i (x .each i c e) (y .each i d f)
 
 module _ (s : List ℕ) (u : Summary) (bytes : List ℕ) (row : List Channel) where
   -- Where the channels call gives 0, the row has the records that the rules say.
-  pub channels-records : channelsCall s u bytes row .number ≡ 0 → Recorded s u row (channelsCall s u bytes row .row)
+  pub channels-records : channelsCall s u bytes row .number ≡ 0 → Recorded s u (length row) (channelsCall s u bytes row .row)
   unfolding channelsCall rowBy
   channels-records e =
       let room = roomIn (length bytes) in
@@ -197,7 +197,7 @@ module _ (s : List ℕ) (u : Summary) (bytes : List ℕ) (row : List Channel) wh
       enough : length row < u .components → ⊥
       enough h = channels-accepted s u bytes row .0 e why.channelRow (row-short h)
 
-      go : (out : List Channel) → Recorded s u row out → RecordAt s u i (getD out i emptyChannel)
+      go : (out : List Channel) → Recorded s u (length row) out → RecordAt s u i (getD out i emptyChannel)
       go out x = by (ltb i (length out)) refl
         where
           by : (b : Bool) → ltb i (length out) ≡ b → RecordAt s u i (getD out i emptyChannel)
@@ -208,13 +208,13 @@ module _ (s : List ℕ) (u : Summary) (bytes : List ℕ) (row : List Channel) wh
               rw (List·getD-eq-default out emptyChannel k) (surplus (omega (arith, enough)) is-empty)
 
   -- Where it does not, every record is empty.
-  pub channels-emptied : (channelsCall s u bytes row .number ≡ 0 → ⊥) → Emptied row (channelsCall s u bytes row .row)
+  pub channels-emptied : (channelsCall s u bytes row .number ≡ 0 → ⊥) → Emptied (length row) (channelsCall s u bytes row .row)
   unfolding channelsCall rowBy numberOf
   channels-emptied f = go (recordsOf s u (roomIn (length bytes)) (length row)) f
     where
       blank : (i : ℕ) (c : Channel) → getElem? (fitted (length row) []) i ≡ some c → Empty c
       blank i c e = ⊎-elim (λ q. absurd (none≢some q)) (λ (_, x). x) (fitted-at (length row) [] i c e .1)
 
-      go : (x : Answer (List Channel)) → (numberOf x ≡ 0 → ⊥) → Emptied row (rowBy (length row) (u .components) x)
+      go : (x : Answer (List Channel)) → (numberOf x ≡ 0 → ⊥) → Emptied (length row) (rowBy (length row) (u .components) x)
       go (refused k) f = record { each = blank; length-kept = fitted-length (length row) [] }
       go (given cs) f = absurd (f refl)

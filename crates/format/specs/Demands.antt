@@ -65,11 +65,11 @@ pub record FirstDemand : Type 0 where
       → First (ChannelsRefusal file u (roomIn (length table)) (length row)) channelsOrder (channelsCall file u table row .number)
   pub channels-table : (file : List ℕ) (u : Summary) (table : List ℕ) (row : List Channel) → channelsCall file u table row .table ≡ zeros (length table)
   pub channels-refused : (file : List ℕ) (u : Summary) (table : List ℕ) (row : List Channel)
-      → Refuses (channelsCall file u table row .number) → Emptied row (channelsCall file u table row .row)
+      → Refuses (channelsCall file u table row .number) → Emptied (length row) (channelsCall file u table row .row)
   -- "one record per child level .. Cut or padded with empty ones", and no other row is what the rules say
   pub channels-records : (file : List ℕ) (u : Summary) (table : List ℕ) (row : List Channel)
-      → channelsCall file u table row .number ≡ 0 → Recorded file u row (channelsCall file u table row .row)
-  pub channels-once : (file : List ℕ) (u : Summary) (row out out′ : List Channel) → Recorded file u row out → Recorded file u row out′ → out ≡ out′
+      → channelsCall file u table row .number ≡ 0 → Recorded file u (length row) (channelsCall file u table row .row)
+  pub channels-once : (file : List ℕ) (u : Summary) (n : ℕ) (out out′ : List Channel) → Recorded file u n out → Recorded file u n out′ → out ≡ out′
   pub register-number : (file : List ℕ) (u : Summary) (buf : List ℕ) → First (RegisterRefusal file u buf) registerOrder (registerCall file u buf .number)
   pub register-refused : (file : List ℕ) (u : Summary) (buf : List ℕ) → Refuses (registerCall file u buf .number) → registerCall file u buf .buffer ≡ buf
   -- the register's records, and no more and no fewer of them than there are frames

@@ -40,12 +40,12 @@ pub data RecordAt (s : List ℕ) (u : Summary) (i : ℕ) (c : Channel) : Type 0 
   padded : {cs : List Channel} → RecordsOf s u cs → length cs ≤ i → Empty c → RecordAt s u i c
   surplus : u .components ≤ i → Empty c → RecordAt s u i c
 
--- `out` is what an accepted call leaves in the row
-pub record Recorded (s : List ℕ) (u : Summary) (row out : List Channel) : Type 0 where
+-- `out` is what an accepted call leaves in a row of n records
+pub record Recorded (s : List ℕ) (u : Summary) (n : ℕ) (out : List Channel) : Type 0 where
   pub each : (i : ℕ) (c : Channel) → getElem? out i ≡ some c → RecordAt s u i c
-  pub length-kept : length out ≡ length row
+  pub length-kept : length out ≡ n
 
 -- what a refused one leaves: empty records
-pub record Emptied (row out : List Channel) : Type 0 where
+pub record Emptied (n : ℕ) (out : List Channel) : Type 0 where
   pub each : (i : ℕ) (c : Channel) → getElem? out i ≡ some c → Empty c
-  pub length-kept : length out ≡ length row
+  pub length-kept : length out ≡ n
