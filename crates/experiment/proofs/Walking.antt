@@ -12,12 +12,15 @@ use Rattle.format.specs.Trees.{mostDepth}
 use Rattle.format.specs.Values.{fieldIn}
 use Rattle.format.specs.Loops.{childLevels, nothing, wrong, loop, said, Built, append, walkAll, walkOne, walk, judge, experiment}
 use Rattle.format.specs.declared.Entry.{Entry}
+use Rattle.format.specs.declared.Loop.{Loop}
 use Rattle.format.proofs.Answers.{Numbered, NotZero, refusal}
 use Rattle.format.proofs.Nonzero.{walk-some}
-use Rattle.experiment.specs.Kept.{Tells, turned, Stands, Reached}
+use Rattle.experiment.specs.Kept.{Tells, accepted, turned, Stands, Reached}
+use Rattle.experiment.specs.Loaded.{loadedOf, Loaded}
 use Rattle.experiment.specs.Walked.{Gives, went, stopped}
 use Rattle.experiment.specs.declared.kept.Kept.{Kept}
 use Rattle.experiment.specs.declared.Walked.{Walked}
+use Rattle.experiment.specs.declared.Experiment.{Experiment}
 
 -- ---- one level
 
@@ -133,3 +136,13 @@ experiment-is s es i w number g q = go (walk mostDepth s es i 0 []) (walk-some m
     go : (x : Answer (List Built)) → Numbered NotZero x → Gives w x → Tells number (w .kept .loops) (w .kept .depth) (andThen x λ bs. judge [] (reverse bs))
     go (refused n) (refusal h) (stopped e) = turned {n = n} (q ∙ rw (ne-eqb (w .number) 0 (λ z. omega arith)) e) h
     go (given bs) h (went e k) = subst (λ (m : ℕ). Tells m (w .kept .loops) (w .kept .depth) (judge [] (reverse bs))) (sym (q ∙ rw (eq-eqb (w .number) 0 e) refl)) (k .judged)
+
+-- what is handed out where number, loops and depth tell x
+module _ (number : ℕ) (loops : List Loop) (depth : ℕ) (r : Experiment) where
+  pub loaded-turned : {x : Answer (List Loop)} → Tells number loops depth x → (number ≡ 0 → ⊥) → r ≡ loadedOf (refused number) → Loaded r x
+  loaded-turned (accepted q p d) h e = absurd (h q)
+  loaded-turned (turned q p) h e = record { answer = e ∙ rw q refl; tells = rw e (turned q p) }
+
+  pub loaded-kept : {x : Answer (List Loop)} → Tells number loops depth x → number ≡ 0 → r ≡ record { number = number; loops = loops; depth = depth } → Loaded r x
+  loaded-kept (accepted q p d) h e = record { answer = e ∙ rw (q, p, d) refl; tells = rw e (accepted q p d) }
+  loaded-kept (turned q p) h e = absurd (omega arith)

@@ -4,6 +4,7 @@ ghost use mathlib.Core.List.{List, [], _∷_};
 ghost use Prim.Native.Nat.{_+_, _≤_, _<_, max};
 ghost use lib.ListN.{take};
 ghost use Rattle.format.specs.Loops.{Built, append, axisOf, hasAxis};
+ghost use Rattle.format.specs.Summary.{inThree};
 ghost use Rattle.experiment.specs.Kept.{Stands, Reached, Grown, larger};
 use format::Axis;
 use format::Loop;
@@ -24,15 +25,22 @@ pub struct Kept {
     pub verdict: u32,
 }
 
-// No loop yet.
-pub fn none_kept() -> Kept
-    ensures { λ r. ⌜ Stands r [] ⌝ }
+// Places for three loops, none of them used.
+pub fn no_loops() -> [Loop; 3]
+    ensures { λ r. ⌜ r ≡ inThree [] ⌝ }
 {
     let l = Loop {
         axis: Axis::T,
         count: 0,
     };
-    let loops = [l; 3];
+    [l; 3]
+}
+
+// No loop yet.
+pub fn none_kept() -> Kept
+    ensures { λ r. ⌜ Stands r [] ⌝ }
+{
+    let loops = no_loops();
     Kept {
         loops,
         depth: 0,
@@ -56,7 +64,7 @@ fn axis_of(kind: u64) -> Axis
 }
 
 // Whether one of the first `depth` loops runs over the axis.
-pub fn has_axis(loops: [Loop; 3], depth: u64, axis: Axis) -> bool
+fn has_axis(loops: [Loop; 3], depth: u64, axis: Axis) -> bool
     requires { ⌜ depth ≤ 3 ⌝ }
     ensures { λ r. ⌜ r ≡ hasAxis axis (take depth loops) ⌝ }
 {

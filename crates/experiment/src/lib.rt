@@ -4,17 +4,20 @@ ghost use mathlib.Core.Bool.{cond};
 ghost use mathlib.Core.List.{List};
 ghost use Prim.Native.Nat.{suc, _+_, _≤_, _<_};
 ghost use lib.Dec.{eqb};
+ghost use Rattle.format.specs.Answer.{refused};
 ghost use Rattle.format.specs.Loops.{Built, append, walk, walkAll, experiment};
 ghost use Rattle.lookup.specs.Table.{entryIn, entriesIn, Holds};
 ghost use Rattle.lookup.specs.Walks.{Standing, restOf};
-ghost use Rattle.experiment.specs.Kept.{Tells, Stands, Reached};
+ghost use Rattle.experiment.specs.Kept.{Stands, Reached};
+ghost use Rattle.experiment.specs.Loaded.{loadedOf, Loaded};
 ghost use Rattle.experiment.specs.Walked.{Gives};
 
-pub mod kept;
+mod kept;
 pub mod single;
 
 use crate::kept::Kept;
 use crate::kept::append;
+use crate::kept::no_loops;
 use crate::kept::none_kept;
 use crate::single::SPECT;
 use crate::single::Single;
@@ -30,12 +33,12 @@ use lookup::level::get;
 pub const MAX_EXP_DEPTH: u64 = 64;
 
 // Where a walk has come to: the number of a refusal, 0 where there is none, and the loops that are kept.
-pub struct Walked {
+struct Walked {
     pub number: u32,
     pub kept: Kept,
 }
 
-// The loops of an experiment, outermost first, of which `depth` are used; or the number of a refusal, 0 where there is none.
+// The loops of an experiment, outermost first, of which `depth` are used, with number 0; or the number of a refusal, with no loop.
 pub struct Experiment {
     pub number: u32,
     pub loops: [Loop; 3],
@@ -132,16 +135,32 @@ fn first_of(number: u32, later: u32) -> u32
     if number == 0 { later } else { number }
 }
 
+// An experiment that is refused.
+fn unloaded(number: u32) -> Experiment
+    ensures { λ r. ⌜ r ≡ loadedOf (refused number) ⌝ }
+{
+    let loops = no_loops();
+    Experiment {
+        number,
+        loops,
+        depth: 0,
+    }
+}
+
 // The loops of the experiment level i.
 pub fn load_experiment(file: &[u8], table: &[u8], used: usize, i: usize) -> Experiment
     requires { ⌜ Holds (now file) (now table) used × (i < used) ⌝ }
-    ensures { λ r. ⌜ Tells (r .number) (r .loops) (r .depth) (experiment (now (file .entry)) (entriesIn (now (table .entry)) used) i) ⌝ }
+    ensures { λ r. ⌜ Loaded r (experiment (now (file .entry)) (entriesIn (now (table .entry)) used) i) ⌝ }
 {
     let w = load_experiment_rec(file, table, used, i, 0, MAX_EXP_DEPTH, none_kept());
     let k = w.kept;
+    let number = first_of(w.number, k.verdict);
+    if number != 0 {
+        return unloaded(number);
+    }
     let loops = k.loops;
     Experiment {
-        number: first_of(w.number, k.verdict),
+        number,
         loops,
         depth: k.depth,
     }

@@ -32,7 +32,7 @@ use number::Integer;
 use number::Natural;
 
 // A loop may have this many values.
-pub const MAX_LOOP_COUNT: u64 = 1000000;
+const MAX_LOOP_COUNT: u64 = 1000000;
 
 // Types above this are no loops.
 const MAX_LOOP_TYPE: u64 = 10;

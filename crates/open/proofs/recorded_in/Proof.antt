@@ -36,7 +36,7 @@ returns-2 : tie.Need-returns-2
 unfolding found ascii
 returns-2 c =
     let k = c .before .before .before in
-    run _ _ _ _ (sym (k .before .before .before .get-level .ensures .0) ∙ ap found (k .before .i .given .1)) (c .before .before .load-experiment .ensures) (c .before .find-z-step .ensures)
+    run _ _ _ _ (sym (k .before .before .before .get-level .ensures .0) ∙ ap found (k .before .i .given .1)) (c .before .before .load-experiment .ensures .tells) (c .before .find-z-step .ensures)
 
 pub recorded-in-spec : {M : Type 1} → statement M
 recorded-in-spec =
