@@ -11,6 +11,8 @@ use Rattle.format.specs.Summary.{loopsOf}
 use Rattle.format.specs.Calls.Open.{opened, openCall}
 use Rattle.format.specs.Grammar.File.{Joined}
 use Rattle.format.specs.Grammar.Table.{Enough}
+use Rattle.format.specs.Refused.Order.{FirstAt}
+use Rattle.format.specs.Refused.Open.{OpenRefusal, openOrder}
 use Rattle.format.specs.Refused.Summary.{Sound, Blank}
 use Rattle.format.specs.Refused.Plane.{Within}
 use Rattle.format.specs.Demands.{Refuses}
@@ -23,16 +25,16 @@ module _ (s t : List ℕ) where
   -- the sentences that speak of a number and a summary
   abbrev Sentences : ℕ → Summary → Type 0
   Sentences n u =
-      (Refuses n → Blank u) × (((n ≡ 0) ↔ ((v : Summary) × Joined s v × Enough s (roomIn (length t)))) × ((n ≡ 0 → Joined s u) × ((n ≡ 0 → Sound s u)
+      FirstAt (OpenRefusal s (roomIn (length t))) openOrder n × ((Refuses n → Blank u) × (((n ≡ 0) ↔ ((v : Summary) × Joined s v × Enough s (roomIn (length t)))) × ((n ≡ 0 → Joined s u) × ((n ≡ 0 → Sound s u)
       × ((scene t z scene′ t′ z′ : ℕ) → n ≡ 0 → Within (loopsOf u) scene t z → Within (loopsOf u) scene′ t′ z′
-      → seqIndex (loopsOf u) scene t z ≡ seqIndex (loopsOf u) scene′ t′ z′ → (scene ≡ scene′) × (t ≡ t′) × (z ≡ z′)))))
+      → seqIndex (loopsOf u) scene t z ≡ seqIndex (loopsOf u) scene′ t′ z′ → (scene ≡ scene′) × (t ≡ t′) × (z ≡ z′))))))
 
   abbrev Promised : Opened → List ℕ → Type 0
   Promised r out =
       (r .number ≡ openCall s t .number) × ((r .summary ≡ openCall s t .summary) × ((out ≡ openCall s t .table) × ((out ≡ zeros (length t)) × Sentences (r .number) (r .summary))))
 
   sentences : Sentences (openCall s t .number) (openCall s t .summary)
-  sentences = (first .open-refused s t, (third .opens-exactly s t, (third .returns-theirs s t, (third .opened-sound s t, third .frames-different s t))))
+  sentences = (first .open-number s t, (first .open-refused s t, (third .opens-exactly s t, (third .returns-theirs s t, (third .opened-sound s t, third .frames-different s t)))))
 
   pub promised : {r : Opened} {out : List ℕ} → Says r (opened s (roomIn (length t))) → out ≡ zeros (length t) → Promised r out
   unfolding openCall

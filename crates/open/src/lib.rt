@@ -42,6 +42,8 @@ ghost use Rattle.format.specs.Summary.{inThree, summaryOf, zeroSummary, loopsOf
 ghost use Rattle.format.specs.Calls.Open.{opened, openCall};
 ghost use Rattle.format.specs.Grammar.File.{Joined};
 ghost use Rattle.format.specs.Grammar.Table.{Enough};
+ghost use Rattle.format.specs.Refused.Order.{FirstAt};
+ghost use Rattle.format.specs.Refused.Open.{OpenRefusal, openOrder};
 ghost use Rattle.format.specs.Refused.Summary.{Sound, Blank};
 ghost use Rattle.format.specs.Refused.Plane.{Within};
 ghost use Rattle.format.specs.Demands.{Refuses};
@@ -290,6 +292,7 @@ pub fn open(file: &[u8], table: &mut [u8]) -> Opened
     ensures summary { λ r. ⌜ r .summary ≡ openCall (now (file .entry)) (now (table .entry)) .summary ⌝ }
     ensures table { λ _. ⌜ now (table .exit) ≡ openCall (now (file .entry)) (now (table .entry)) .table ⌝ }
     ensures zeroed { λ _. ⌜ now (table .exit) ≡ zeros (length (now (table .entry))) ⌝ }
+    ensures first { λ r. ⌜ FirstAt (OpenRefusal (now (file .entry)) (roomIn (length (now (table .entry))))) openOrder (r .number) ⌝ }
     ensures refused { λ r. ⌜ (Refuses (r .number) → Blank (r .summary)) ⌝ }
     ensures exactly { λ r. ⌜ ((r .number ≡ 0) ↔ ((u : Summary) × Joined (now (file .entry)) u × Enough (now (file .entry)) (roomIn (length (now (table .entry)))))) ⌝ }
     ensures theirs { λ r. ⌜ (r .number ≡ 0 → Joined (now (file .entry)) (r .summary)) ⌝ }
