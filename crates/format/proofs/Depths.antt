@@ -20,8 +20,8 @@ use Rattle.format.specs.declared.Entry.{Entry}
 -- the entries es, numbered from n on, have the depths D, and known types
 pub data Ranked (D : ℕ → ℕ) : ℕ → List Entry → Type 0 where
   nil : {n : ℕ} → Ranked D n []
-  cons : {n : ℕ} {e : Entry} {es : List Entry} → Typed e → (e .kind ≡ 11 → D n < mostDepth) → ((y : ℕ) → e .parent ≡ suc y → (y < n) × (D y < D n)) → Ranked D (suc n) es
-      → Ranked D n (e ∷ es)
+  cons : {n : ℕ} {e : Entry} {es : List Entry} → Typed e → (e .kind ≡ 11 → D n < mostDepth) → ((y : ℕ) → e .parent ≡ suc y → (y < n) × (D y < D n))
+      → Ranked D (suc n) es → Ranked D n (e ∷ es)
 
 ranked-append : (D : ℕ → ℕ) (n : ℕ) (ks es : List Entry) → Ranked D n ks → Ranked D (n + length ks) es → Ranked D n (ks ++ es)
 ranked-append D n [] es nil r = let q : n + 0 ≡ n = omega arith in rw q at r
@@ -115,8 +115,8 @@ above-more : (D E : ℕ → ℕ) (parent used more here : ℕ) → Above D paren
 unfolding Above
 above-more D E parent used more here a h l y z = let (k, m) = a y z in (omega arith, rw (h y k) m)
 
-head-depth : (D E : ℕ → ℕ) (parent used here : ℕ) (en : Entry) (es : List Entry) → Typed en → Above D parent used here → (en .kind ≡ 11 → here < mostDepth) → en .parent ≡ parent
-    → ((x : ℕ) → x < suc used → E x ≡ put D used here x) → Ranked E (suc used) es → Ranked E used (en ∷ es)
+head-depth : (D E : ℕ → ℕ) (parent used here : ℕ) (en : Entry) (es : List Entry) → Typed en → Above D parent used here
+    → (en .kind ≡ 11 → here < mostDepth) → en .parent ≡ parent → ((x : ℕ) → x < suc used → E x ≡ put D used here x) → Ranked E (suc used) es → Ranked E used (en ∷ es)
 unfolding Above
 head-depth D E parent used here en es y a k q kept r =
     cons {n = used} y (λ z. rw at-used (k z))
@@ -133,8 +133,8 @@ kids-above : (D : ℕ → ℕ) (used here : ℕ) → Above (put D used here) (su
 unfolding Above
 kids-above D used here y z = let q : used ≡ y = omega arith in (omega arith, rw (← q, put-here D used here) (omega arith))
 
-plain-depths : (D : ℕ → ℕ) (parent used here : ℕ) (en : Entry) (fs : List Entry) → Typed en → Above D parent used here → (en .kind ≡ 11 → ⊥) → en .parent ≡ parent
-    → Depthed (put D used here) (used + 1) fs → Depthed D used (en ∷ fs)
+plain-depths : (D : ℕ → ℕ) (parent used here : ℕ) (en : Entry) (fs : List Entry) → Typed en → Above D parent used here
+    → (en .kind ≡ 11 → ⊥) → en .parent ≡ parent → Depthed (put D used here) (used + 1) fs → Depthed D used (en ∷ fs)
 plain-depths D parent used here en fs t a k q x =
     let one : used + 1 ≡ suc used = omega arith in
     record {
@@ -143,8 +143,8 @@ plain-depths D parent used here en fs t a k q x =
       ranked = head-depth D (x .E) parent used here en fs t a (λ z. absurd (k z)) q (λ y l. x .kept y (omega arith)) (rw one at (x .ranked));
     }
 
-level-depths : (D : ℕ → ℕ) (parent used here : ℕ) (en : Entry) (ks fs : List Entry) → Typed en → Above D parent used here → here < mostDepth → en .parent ≡ parent
-    → (x : Depthed (put D used here) (suc used) ks) → Depthed (x .E) (used + suc (length ks)) fs → Depthed D used (en ∷ ks ++ fs)
+level-depths : (D : ℕ → ℕ) (parent used here : ℕ) (en : Entry) (ks fs : List Entry) → Typed en → Above D parent used here
+    → here < mostDepth → en .parent ≡ parent → (x : Depthed (put D used here) (suc used) ks) → Depthed (x .E) (used + suc (length ks)) fs → Depthed D used (en ∷ ks ++ fs)
 level-depths D parent used here en ks fs t a k q x y =
     let sum : used + suc (length ks) ≡ suc used + length ks = omega arith in
     record {

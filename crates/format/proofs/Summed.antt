@@ -46,7 +46,8 @@ places-are ls ps few e n u = ext-getD noLoop ps (inThree ls) (n ∙ sym (three-p
     go : (i : ℕ) → i < 3 → (b : Bool) → ltb i (length ls) ≡ b → getD ps i noLoop ≡ getD (inThree ls) i noLoop
     go i h true q =
         let l = ltb-true i (length ls) q in
-        sym (getD-take (length ls) ps i noLoop l) ∙ ap (λ (x : List Loop). getD x i noLoop) (e ∙ sym (three-loops ls few)) ∙ getD-take (length ls) (inThree ls) i noLoop l
+        sym (getD-take (length ls) ps i noLoop l) ∙ ap (λ (x : List Loop). getD x i noLoop) (e ∙ sym (three-loops ls few))
+        ∙ getD-take (length ls) (inThree ls) i noLoop l
     go i h false q =
         let l = ltb-false i (length ls) q in
         there ps i noLoop (u i l h) ∙ sym (there (inThree ls) i noLoop (padded ls 3 3 i l h (omega arith)))

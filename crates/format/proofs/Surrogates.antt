@@ -54,7 +54,8 @@ after-step p u (q ∷ us) = refl
 after-any : (p q : ℕ) (us : List ℕ) → NoLow us → replacedAfter p us ≡ replacedAfter q us
 unfolding replacedAfter
 after-any p q us at-end = refl
-after-any p q us (before {u = u} {us = vs} f) = after-step p u vs ∙ (ap (λ (x : ℕ). x ∷ replacedAfter u vs) (first (highSurrogate u) refl) ∙ sym (after-step q u vs))
+after-any p q us (before {u = u} {us = vs} f) =
+    after-step p u vs ∙ (ap (λ (x : ℕ). x ∷ replacedAfter u vs) (first (highSurrogate u) refl) ∙ sym (after-step q u vs))
   where
     n : ℕ
     n = getD vs 0 0
@@ -75,13 +76,15 @@ cons-same p q = λ k. p k ∷ q k
 read-mended : (p : ℕ) {us vs : List ℕ} → highSurrogate p ≡ false → Mended us vs → replacedAfter p us ≡ vs
 unfolding replacedAfter
 read-mended p f over = refl
-read-mended p f (plain {u = u} {us = us} a b m) = after-step p u us ∙ cons-same (replaced-other p u (getD us 0 0) (not-high u a) (not-low u b)) (read-mended u (not-high u a) m)
+read-mended p f (plain {u = u} {us = us} a b m) =
+    after-step p u us ∙ cons-same (replaced-other p u (getD us 0 0) (not-high u a) (not-low u b)) (read-mended u (not-high u a) m)
 read-mended p f (pair {h = h} {l = l} {us = us} a b m) =
     cons-same (replaced-high p h l (high-true h a) ∙ rw (low-true l b) refl)
     (after-step h l us ∙ cons-same (replaced-low h l (getD us 0 0) (low-true l b) ∙ rw (high-true h a) refl) (read-mended l (low-high l b) m))
 read-mended p f (lone-high {h = h} {us = us} a n m) =
     after-step p h us ∙ cons-same (replaced-high p h (getD us 0 0) (high-true h a) ∙ rw (no-low us n) refl) (after-any h 0 us n ∙ read-mended 0 refl m)
-read-mended p f (lone-low {l = l} {us = us} b m) = after-step p l us ∙ cons-same (replaced-low p l (getD us 0 0) (low-true l b) ∙ rw f refl) (read-mended l (low-high l b) m)
+read-mended p f (lone-low {l = l} {us = us} b m) =
+    after-step p l us ∙ cons-same (replaced-low p l (getD us 0 0) (low-true l b) ∙ rw f refl) (read-mended l (low-high l b) m)
 
 -- ---- and the other way round
 

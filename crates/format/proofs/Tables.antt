@@ -1,14 +1,15 @@
 -- The bytes of a tree's entries, what a table makes of a reading, and the entries that stand in it. Assumes nothing.
 use Prim.Native.Nat.{ℕ, zero, suc, _+_, _-_, _*_, _/_, _%_, _^_, _≤_, _<_}
 use mathlib.Core.Path.{_≡_, refl, sym, ap, _∙_}
+use mathlib.Core.Bool.{Bool, true, false}
 use mathlib.Core.Option.{some}
 use mathlib.Core.List.{List, [], _∷_, _++_, append-assoc}
 use native.Mathlib.Omega.{arith}
 use native.Mathlib.Nat.{add-zero, zero-add, mod-lt, mod-eq-of-lt}
-use borrow.Author.Tests.{le-leb, lt-leb}
-use lib.Dec.{lit<}
+use borrow.Author.Tests.{le-leb, lt-leb, ltb-true, ltb-false}
+use lib.Dec.{lit<, ltb}
 use lib.ListN.{length, drop, replicate, getD, getElem?, length-append, length-drop, length-replicate}
-use lib.Seq.{sets, sets-eq, getD-append-add, getD-drop}
+use lib.Seq.{sets, sets-eq, getD-append-add, getD-drop, ext-getD}
 use Rattle.format.proofs.Answers.{none≢some}
 use Rattle.format.proofs.Bytes.{le-after, le-before, le-leBytes, leBytes-length, leBytes-low, sets-append}
 use Rattle.format.specs.Bytes.{leAt, leBytes, over, zeros}
@@ -212,3 +213,44 @@ tabled es n h =
 
     zero-rest : (i : ℕ) → getD rest i 0 ≡ 0
     zero-rest i = getD-drop (length (tableBytes es)) (replicate n 0) i 0 ∙ zeros-at n (length (tableBytes es) + i)
+
+-- ---- and of no other list
+
+-- equal numbers have equal bytes
+same-bytes : (n : ℕ) (s t : List ℕ) (i : ℕ) → AllBytes s → AllBytes t → leAt n s i ≡ leAt n t i → (k : ℕ) → k < n → getD s (i + k) 0 ≡ getD t (i + k) 0
+unfolding leAt AllBytes
+same-bytes zero s t i a b e k h = absurd (omega arith)
+same-bytes (suc n) s t i a b e zero h = let z : i + 0 ≡ i = omega arith in rw z (omega (arith, a i, b i))
+same-bytes (suc n) s t i a b e (suc k) h =
+    let z : i + suc k ≡ suc i + k = omega arith in
+    let f : leAt n s (suc i) ≡ leAt n t (suc i) = omega (arith, a i, b i) in
+    rw z (same-bytes n s t (suc i) a b f k (omega arith))
+
+some-entry : (es : List Entry) (k : ℕ) → k < length es → (e : Entry) × (getElem? es k ≡ some e)
+some-entry [] k h = absurd (omega arith)
+some-entry (e ∷ es) zero h = (e, refl)
+some-entry (e ∷ es) (suc k) h = some-entry es k (omega arith)
+
+-- the six numbers of an entry
+same-numbers : (s t : List ℕ) (i : ℕ) (e : Entry) → EntryAt s i e → EntryAt t i e → (j : ℕ) → j < 6 → leAt 8 s (i + 8 * j) ≡ leAt 8 t (i + 8 * j)
+same-numbers s t i e x y zero h = let z : i + 8 * 0 ≡ i = omega arith in rw z (x .kind ∙ sym (y .kind))
+same-numbers s t i e x y (suc zero) h = x .name ∙ sym (y .name)
+same-numbers s t i e x y (suc (suc zero)) h = x .units ∙ sym (y .units)
+same-numbers s t i e x y (suc (suc (suc zero))) h = x .value ∙ sym (y .value)
+same-numbers s t i e x y (suc (suc (suc (suc zero)))) h = x .size ∙ sym (y .size)
+same-numbers s t i e x y (suc (suc (suc (suc (suc zero))))) h = x .parent ∙ sym (y .parent)
+same-numbers s t i e x y (suc (suc (suc (suc (suc (suc j)))))) h = absurd (omega arith)
+
+pub tabled-unique : (es : List Entry) (n : ℕ) (s t : List ℕ) → Tabled es n s → Tabled es n t → s ≡ t
+tabled-unique es n s t x y = ext-getD 0 s t (x .length-kept ∙ sym (y .length-kept)) λ i h. go i (ltb i (48 * length es)) refl
+  where
+    go : (i : ℕ) (b : Bool) → ltb i (48 * length es) ≡ b → getD s i 0 ≡ getD t i 0
+    go i false q = let l = ltb-false i (48 * length es) q in x .rest-zero i l ∙ sym (y .rest-zero i l)
+    go i true q =
+        let l = ltb-true i (48 * length es) q in
+        let k = i / 48 in
+        let j = (i - 48 * k) / 8 in
+        let (e, there) = some-entry es k (omega arith) in
+        let m = same-numbers s t (48 * k) e (x .entry k e there) (y .entry k e there) j (omega arith) in
+        let z : 48 * k + 8 * j + (i - 48 * k - 8 * j) ≡ i = omega arith in
+        rw z at (same-bytes 8 s t (48 * k + 8 * j) (unfold AllBytes in x .bytes) (unfold AllBytes in y .bytes) m (i - 48 * k - 8 * j) (omega arith))

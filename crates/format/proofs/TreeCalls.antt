@@ -176,7 +176,8 @@ module _ (s : List ℕ) (u : Summary) (name bytes : List ℕ) where
 
   -- ---- the table
 
-  whole : (es : List Entry) → treeNamed s u name (roomIn (length bytes)) ≡ given es → (r : Range) × NameData s u name r × Tree s r es × (length es ≤ roomIn (length bytes))
+  whole : (es : List Entry) → treeNamed s u name (roomIn (length bytes)) ≡ given es
+      → (r : Range) × NameData s u name r × Tree s r es × (length es ≤ roomIn (length bytes))
   unfolding treeNamed namedTree
   whole es e =
       let (f₁, e₁) = refuseIf-given (badSummary s u) why.summary _ e in
@@ -195,7 +196,8 @@ module _ (s : List ℕ) (u : Summary) (name bytes : List ℕ) where
       let x = treeNamed s u name (roomIn (length bytes)) in
       let (es, q) = decides-given (nonzero treeOrder refl) (tree-decides s u name (roomIn (length bytes))) (sym (by-number (length bytes) x) ∙ e) in
       let (r, y, z, h) = whole es q in
-      (r, es, y, z, subst (λ (a : Answer (List Entry)). Tabled es (length bytes) (treeBy (length bytes) a .buffer)) (sym q) (tabled es (length bytes) (omega arith)))
+      let t = tabled es (length bytes) (omega arith) in
+      (r, es, y, z, subst (λ (a : Answer (List Entry)). Tabled es (length bytes) (treeBy (length bytes) a .buffer)) (sym q) t)
 
   -- Where it does not, the table is zero.
   pub tree-refused : (treeCall s u name bytes .number ≡ 0 → ⊥) → treeCall s u name bytes .buffer ≡ zeros (length bytes)

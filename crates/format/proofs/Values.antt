@@ -205,7 +205,8 @@ module _ (s : List ℕ) (es : List Entry) where
       absurd (slot-first {B = Bears s es (suc i)} (no-name b) .none-earlier j (all-in here (rising-above j ks up)) (just-first a))
 
   -- the value of an entry from those of a level's unnamed entries
-  kind-value : (i : ℕ) (e : Entry) → Typed e → getElem? es i ≡ some e → (val : ℕ → Value) → (e .kind ≡ 11 → (j : ℕ) → Bears s es (suc i) [] j → ValueOf s es j (val j))
+  kind-value : (i : ℕ) (e : Entry) → Typed e → getElem? es i ≡ some e → (val : ℕ → Value)
+      → (e .kind ≡ 11 → (j : ℕ) → Bears s es (suc i) [] j → ValueOf s es j (val j))
       → ValueOf s es i (valueIf (eqb (e .kind) 11) (λ _. collapse val i (slotsOf s es (suc i))) (leaf s e))
   unfolding valueIf
   kind-value i e t q val h = go (eqb (e .kind) 11) refl
@@ -227,7 +228,8 @@ module _ (s : List ℕ) (es : List Entry) (D : ℕ → ℕ) (R : Ranked D 0 es) 
 
   value-from : (levels i : ℕ) (e : Entry) → getElem? es i ≡ some e → mostDepth < D i + suc levels → ValueOf s es i (valueFrom (suc levels) s es i (some e))
   unfolding valueFrom
-  value-from zero i e q h = kind-value s es i e (entry-typed D es R i e q) q (λ j. valueFrom 0 s es j (getElem? es j)) λ k. absurd (omega (arith, level-depth D es R i e q k))
+  value-from zero i e q h =
+      kind-value s es i e (entry-typed D es R i e q) q (λ j. valueFrom 0 s es j (getElem? es j)) λ k. absurd (omega (arith, level-depth D es R i e q k))
   value-from (suc levels) i e q h =
       kind-value s es i e (entry-typed D es R i e q) q (λ j. valueFrom (suc levels) s es j (getElem? es j))
       λ k j b. rw (b .there) (value-from levels j (b .entry) (b .there) (omega (arith, bears-deeper i j [] b)))

@@ -1,6 +1,10 @@
--- "The grammar": document 01's rules, with none of the definitions that compute a reading. What is shared is what a sequence of bytes or a value says: numbers and
--- texts (Bytes, Text), the leaf values and the readings of numbers (Values.leaf, Numbers); formulas of sizes and the limits; and what an entry (Trees.entryOf), an
--- appended loop (Loops.Built), an empty calibration (Calibration.unstated) and a summary (Summary.summaryOf) are made of.
+-- "The grammar": document 01's rules, with none of the definitions that compute a reading. What the rules share with those is just this:
+-- bytes: Bytes.{leAt, part, ascii, most64}, Text.units and Chunks.dataIn;
+-- constants: Chunks.chunkMark, Map.{endMark, mapName, mostEntries}, Trees.{packedType, mostItems, mostDepth}, Loops.mostCount,
+-- Calibration.{leastStep, mostStep}, Numbers.{zeroFloat, oneFloat} and the refusals' numbers, Refusals;
+-- sizes: Attributes.{leastRow, planeBytes}, and Summary.loopsOf, as many of a summary's places as are used;
+-- the readings of numbers over lib.Ieee: Numbers.{unsigned, signed, float, narrow, magnitude};
+-- types: Map.MapEntry, Values.Value, Loops.Built and those that src/ declares.
 pub mod Lists
 pub mod Chunks
 pub mod Map

@@ -183,7 +183,7 @@ walkOne go kids n bs (loop t c) =
     cond (eqb t 6) (walkAll (λ i. go i n) kids bs) (walkAll (λ i. go i (suc n)) kids (append t c n bs))
 
 -- The loops of the experiment level i at nesting n, after those appended before it, with `levels` depths left. An experiment level
--- lies two depths below its parent, so a tree's 64 depths are more than enough.
+-- lies two depths below its parent, so a tree's 64 depths are more than enough: the first clause is there because a definition has to give some answer.
 unfoldable pub walk : ℕ → List ℕ → List Entry → ℕ → ℕ → List Built → Answer (List Built)
 unfolding walkOne ascii
 walk zero s es i n bs = given bs

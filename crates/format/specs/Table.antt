@@ -25,7 +25,7 @@ firsts (suc n) e = firsts n e ++ e n ∷ []
 abbrev pub entriesIn : List ℕ → ℕ → List Entry
 entriesIn t n = firsts n (entryIn t)
 
--- each number of an entry fits 64 bits
+-- each number of an entry fits 64 bits: only such an entry can be read back from the table that it was stored in
 pub record Fit (e : Entry) : Type 0 where
   pub kind : e .kind < 2 ^ 64
   pub name : e .name < 2 ^ 64
@@ -34,6 +34,7 @@ pub record Fit (e : Entry) : Type 0 where
   pub size : e .size < 2 ^ 64
   pub parent : e .parent < 2 ^ 64
 
+-- the same of every entry: reading a tree promises it, so that its entries are found again in the table
 abbrev pub AllFit : List Entry → Type 0
 AllFit [] = Unit
 AllFit (e ∷ es) = Fit e × AllFit es

@@ -109,7 +109,8 @@ unfoldable pub valueIf : Bool → (Unit {0} → Value) → Value → Value
 valueIf true l v = l tt
 valueIf false l v = v
 
--- with `levels` depths left, of which a tree has at most 64
+-- With `levels` depths left, of which a tree has at most 64. The first two clauses are there because a definition has to give some value: a tree has no
+-- entry that deep, and no value is asked of a number without an entry.
 unfoldable pub valueFrom : ℕ → List ℕ → List Entry → ℕ → Option Entry → Value
 unfolding valueIf collapse leaf
 valueFrom zero s es i e = level i

@@ -1,5 +1,5 @@
--- What a summary has to hold, and one that is empty. Row 20: "the shape rules fail, bits are not 8, 16 or 32, a loop count is not 1 to 1,000,000, loops are over three, an axis repeats, or the map range leaves the
--- file."
+-- What a summary has to hold, and what one holds that is returned with a refusal. Row 20: "the shape rules fail, bits are not 8, 16 or 32, a loop count is
+-- not 1 to 1,000,000, loops are over three, an axis repeats, or the map range leaves the file."
 use Prim.Native.Nat.{ℕ, _+_, _≤_}
 use mathlib.Core.Path.{_≡_}
 use mathlib.Core.List.{List}

@@ -49,7 +49,8 @@ abbrev pub treeOrder : List ℕ
 treeOrder =
     why.summary ∷ why.map ∷ why.missing ∷ why.chunk ∷ why.table ∷ why.cut ∷ why.kind ∷ why.packed ∷ why.deep ∷ why.level ∷ []
 
--- the entry e stands in the table from i on: "Entries are six u64: type, name position, name units kept, value position .., value bytes .., parent entry plus one"
+-- The entry e stands in the table from i on. "Entries are six u64: type, name position, name units kept, value position .., value bytes .., parent entry
+-- plus one."
 pub record EntryAt (table : List ℕ) (i : ℕ) (e : Entry) : Type 0 where
   pub kind : leAt 8 table i ≡ e .kind % 2 ^ 64
   pub name : leAt 8 table (i + 8) ≡ e .name % 2 ^ 64
