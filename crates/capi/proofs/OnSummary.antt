@@ -2,7 +2,7 @@
 use Prim.Native.Nat.{ℕ}
 use mathlib.Core.Path.{_≡_}
 use mathlib.Core.Bool.{true, false}
-use mathlib.Core.Option.{Option}
+use mathlib.Core.Option.{Option, some}
 use mathlib.Core.List.{List}
 use lib.ListN.{length}
 use borrow.Author.Tests.{eq-eqb, ne-eqb}
@@ -18,6 +18,10 @@ use Rattle.capi.specs.OnBytes.{onSummary, openOn}
 pub on-some : (bad : List ℕ) (call : Summary → Outcome) (r : Laid) {x : Option Summary} → laidOf r ≡ x → r .ok ≡ true → onSummary bad call x ≡ call (r .summary)
 unfolding onSummary laidOf
 on-some bad call r e k = rw (← e, k)
+
+pub said-some : (r : Laid) {x : Option Summary} → laidOf r ≡ x → r .ok ≡ true → x ≡ some (r .summary)
+unfolding laidOf
+said-some r e k = rw (← e, k)
 
 -- they say none
 pub on-none : (bad : List ℕ) (call : Summary → Outcome) (r : Laid) {x : Option Summary}

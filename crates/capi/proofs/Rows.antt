@@ -1,6 +1,7 @@
 -- A row of channel records in lent bytes, stored one after another. Assumes nothing.
 use Prim.Native.Nat.{ℕ, zero, suc, _+_, _*_, _/_, _%_, _≤_, _<_}
 use mathlib.Core.Path.{_≡_, refl, sym, ap, _∙_}
+use mathlib.Core.Option.{some}
 use mathlib.Core.List.{List, [], _∷_, _++_, append-nil, append-assoc}
 use native.Mathlib.Omega.{arith}
 use native.Mathlib.Numerals.{add-one}
@@ -8,7 +9,8 @@ use lib.ListN.{length, getD, take, replicate, length-append, length-replicate, r
 use lib.Seq.{sets, drop-append-seam, take-suc, take-all, length-take-le}
 use Rattle.format.proofs.Buffers.{over-stored}
 use Rattle.format.proofs.Bytes.{leBytes-length}
-use Rattle.format.proofs.Demands.{first}
+use Rattle.format.proofs.ChannelCalls.{channels-refused}
+use Rattle.format.proofs.ChannelRecords.{channels-records}
 use Rattle.format.specs.Bytes.{leBytes, over, zeros}
 use Rattle.format.specs.Trees.{roomIn}
 use Rattle.format.specs.Channels.{emptyChannel, fitted}
@@ -19,7 +21,8 @@ use Rattle.format.specs.declared.Summary.{Summary}
 use Rattle.channels.specs.Ahead.{ahead}
 use Rattle.channels.specs.Ready.{Ready}
 use Rattle.channels.specs.declared.Prepared.{Prepared}
-use Rattle.layout.specs.Layout.{channelBytes, channelRowBytes}
+use Rattle.layout.specs.Layout.{summaryFrom, channelBytes, channelRowBytes}
+use Rattle.capi.specs.RowBytes.{RowOn}
 use Rattle.capi.specs.OnBytes.{channelRow}
 
 channel-length : (c : Channel) → length (channelBytes c) ≡ 56
@@ -92,4 +95,15 @@ unfolding channelRow
 row-refused file table u n r =
     let e : 56 * (n / 56) + n % 56 ≡ n = omega arith in
     let o = over-zeros (56 * (n / 56)) (n % 56) in
-    rw (first .channels-refused file u table (replicate (n / 56) emptyChannel) r, length-replicate, empty-row) (rw e at o)
+    rw (channels-refused file u table (replicate (n / 56) emptyChannel) r, length-replicate, empty-row) (rw e at o)
+
+-- ---- the records that the rules say
+
+-- An accepted call leaves their bytes.
+pub row-recorded : (file table : List ℕ) {summary : List ℕ} (u : Summary) (n : ℕ) {k : ℕ} {out : List ℕ} → summaryFrom summary ≡ some u
+    → k ≡ channelRow file u table n .number → out ≡ channelRow file u table n .buffer → k ≡ 0 → RowOn file summary n out
+unfolding channelRow
+row-recorded file table u n q e f z =
+    let row = replicate (n / 56) emptyChannel in
+    let x = rw length-replicate at (channels-records file u table row (sym e ∙ z)) in
+    record { u = u; said = q; records = channelsCall file u table row .row; recorded = x; laid = f }

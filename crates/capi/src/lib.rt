@@ -24,6 +24,7 @@ ghost use Rattle.format.specs.Demands.{Refuses};
 ghost use Rattle.format.specs.Calls.Open.{openCall};
 ghost use Rattle.channels.specs.Ahead.{ahead, Stands};
 ghost use Rattle.layout.specs.Layout.{summaryFrom, channelRowBytes};
+ghost use Rattle.capi.specs.RowBytes.{RowOn};
 ghost use Rattle.capi.specs.OnBytes.{openOn, planeOn, treeOn, channelRow, channelsOn, registerOn};
 
 // Opens a file, and stores its summary: 0, or the number of the first refusal and a summary of zeros. The table is all zero afterwards.
@@ -123,6 +124,7 @@ pub extern "C" fn nd2_channels(file: &[u8], summary: &[u8], table: &mut [u8], ro
     ensures row { λ _. ⌜ now (row .exit) ≡ channelsOn (now (file .entry)) (now (summary .entry)) (now (table .entry)) (length (now (row .entry))) .buffer ⌝ }
     ensures table { λ _. ⌜ now (table .exit) ≡ zeros (length (now (table .entry))) ⌝ }
     ensures refused { λ r. ⌜ (Refuses r → now (row .exit) ≡ zeros (length (now (row .entry)))) ⌝ }
+    ensures records { λ r. ⌜ (r ≡ 0 → RowOn (now (file .entry)) (now (summary .entry)) (length (now (row .entry))) (now (row .exit))) ⌝ }
 {
     let laid = summary_from(summary);
     if laid.ok {

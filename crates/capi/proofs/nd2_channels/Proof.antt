@@ -1,9 +1,10 @@
 -- `nd2_channels`: the channels call on the summary that the bytes say.
-use mathlib.Core.Path.{refl, _∙_}
+use mathlib.Core.Path.{refl, sym, _∙_}
+use native.Mathlib.Omega.{arith}
 use lib.ListN.{length}
 use Rattle.format.specs.Bytes.{zeros}
-use Rattle.capi.proofs.OnSummary.{on-some, on-none, both}
-use Rattle.capi.proofs.Rows.{row-refused}
+use Rattle.capi.proofs.OnSummary.{on-some, on-none, said-some, both}
+use Rattle.capi.proofs.Rows.{row-refused, row-recorded}
 use Rattle.capi.specs.OnBytes.{channelRow, channelsOn}
 use borrow.Author.Needs.{needs}
 use Rattle.capi.proofs.nd2_channels.Statement.{statement}
@@ -32,7 +33,10 @@ returns c =
     let k = length (a .row .now) in
     let o = on-some (zeros k) (λ u. channelRow (a .file .now) u (a .table .now) k) (l .result) (l .ensures) (i .if1 .taken) in
     let (n, b) = both o (e .0) (e .1 .0) in
-    (n, (b, (e .1 .1, λ r. e .1 .0 ∙ row-refused (a .file .now) (a .table .now) (l .result .summary) k (λ z. r (e .0 ∙ z)))))
+    let u = l .result .summary in
+    let said = said-some (l .result) (l .ensures) (i .if1 .taken) in
+    let recorded = row-recorded (a .file .now) (a .table .now) u k said (e .0) (e .1 .0) in
+    (n, (b, (e .1 .1, (λ r. e .1 .0 ∙ row-refused (a .file .now) (a .table .now) u k (λ z. r (e .0 ∙ z)), recorded))))
 
 clear-requires : tie.Need-clear-requires
 clear-requires c κs = search needs
@@ -57,7 +61,7 @@ returns-2 c =
     let k = length (a .row .now) in
     let o = on-none (zeros k) (λ u. channelRow (a .file .now) u (a .table .now) k) (l .result) (l .ensures) (i .if1 .left) in
     let (n, b) = both o refl (d .clear .ensures) in
-    (n, (b, (t .clear2 .ensures, λ _. d .clear .ensures)))
+    (n, (b, (t .clear2 .ensures, (λ _. d .clear .ensures, λ z. absurd (omega arith)))))
 
 pub nd2-channels-spec : {M : Type 1} → statement M
 nd2-channels-spec =
