@@ -17,9 +17,9 @@ use Rattle.format.specs.Calls.Border.{borderCall, planeAfter}
 use Rattle.format.specs.Demands.{Refuses, None}
 use Rattle.format.specs.Grammar.File.{Joined}
 use Rattle.format.specs.Grammar.Table.{Enough}
-use Rattle.format.specs.Refused.Order.{First, FirstAt}
+use Rattle.format.specs.Refused.Order.{First}
 use Rattle.format.specs.Refused.Plane.{FrameData, PlaneRefusal, planeOrder, Copied}
-use Rattle.format.specs.Refused.Border.{BorderRefusal, borderOrder}
+use Rattle.format.specs.Refused.Border.{BorderFirst}
 use Rattle.format.specs.declared.Range.{Range}
 use Rattle.format.specs.declared.Summary.{Summary}
 use Rattle.format.proofs.Answers.{Numbered, NotZero, refusal}
@@ -63,7 +63,7 @@ module _ (s tab : List ℕ) (scene t c z : ℕ) (buf : List ℕ) where
 
   abbrev Sentences : ℕ → List ℕ → Type 0
   Sentences n out =
-      (Refuses n → out ≡ buf) × (FirstAt (BorderRefusal s (roomIn (length tab)) scene t c z buf) borderOrder n × (((u : Summary) → Joined s u → Fits → First (R u) planeOrder n)
+      (Refuses n → out ≡ buf) × (BorderFirst s tab scene t c z buf n × (((u : Summary) → Joined s u → Fits → First (R u) planeOrder n)
       × (((n ≡ 0) ↔ ((u : Summary) × Joined s u × Fits × None (R u)))
       × (n ≡ 0 → (u : Summary) × (p : Range) × Joined s u × FrameData s u (seqIndex (loopsOf u) scene t z) p × Copied u c (dataIn s p) buf out))))
 

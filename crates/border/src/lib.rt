@@ -12,9 +12,9 @@ ghost use Rattle.format.specs.Summary.{loopsOf};
 ghost use Rattle.format.specs.Calls.Border.{borderCall};
 ghost use Rattle.format.specs.Grammar.File.{Joined};
 ghost use Rattle.format.specs.Grammar.Table.{Enough};
-ghost use Rattle.format.specs.Refused.Order.{First, FirstAt};
+ghost use Rattle.format.specs.Refused.Order.{First};
 ghost use Rattle.format.specs.Refused.Plane.{FrameData, PlaneRefusal, planeOrder, Copied};
-ghost use Rattle.format.specs.Refused.Border.{BorderRefusal, borderOrder};
+ghost use Rattle.format.specs.Refused.Border.{BorderFirst};
 ghost use Rattle.format.specs.Demands.{Refuses, None};
 ghost use Rattle.format.specs.declared.Range.{Range};
 ghost use Rattle.format.specs.declared.Summary.{Summary};
@@ -35,7 +35,7 @@ pub extern "C" fn nd2_read_plane(
     ensures samples { λ _. ⌜ now (samples .exit) ≡ borderCall (now (file .entry)) (now (table .entry)) scene t c z (now (samples .entry)) .samples ⌝ }
     ensures zeroed { λ _. ⌜ now (table .exit) ≡ zeros (length (now (table .entry))) ⌝ }
     ensures untouched { λ r. ⌜ (Refuses r → now (samples .exit) ≡ now (samples .entry)) ⌝ }
-    ensures first { λ r. ⌜ FirstAt (BorderRefusal (now (file .entry)) (roomIn (length (now (table .entry)))) scene t c z (now (samples .entry))) borderOrder r ⌝ }
+    ensures first { λ r. ⌜ BorderFirst (now (file .entry)) (now (table .entry)) scene t c z (now (samples .entry)) r ⌝ }
     ensures then { λ r. ⌜ ((u : Summary) → Joined (now (file .entry)) u → Enough (now (file .entry)) (roomIn (length (now (table .entry)))) → First (PlaneRefusal (now (file .entry)) u scene t c z (now (samples .entry))) planeOrder r) ⌝ }
     ensures accepted { λ r. ⌜ ((r ≡ 0) ↔ ((u : Summary) × Joined (now (file .entry)) u × Enough (now (file .entry)) (roomIn (length (now (table .entry)))) × None (PlaneRefusal (now (file .entry)) u scene t c z (now (samples .entry))))) ⌝ }
     ensures copied { λ r. ⌜ (r ≡ 0 → (u : Summary) × (p : Range) × Joined (now (file .entry)) u × FrameData (now (file .entry)) u (seqIndex (loopsOf u) scene t z) p × Copied u c (dataIn (now (file .entry)) p) (now (samples .entry)) (now (samples .exit))) ⌝ }

@@ -15,7 +15,7 @@ use Rattle.format.specs.Grammar.File.{Joined}
 use Rattle.format.specs.Refused.Order.{FirstAt}
 use Rattle.format.specs.Refused.Plane.{PlaneRefusal}
 use Rattle.format.specs.Refused.Open.{Stage, OpenRefusal}
-use Rattle.format.specs.Refused.Border.{BorderStage, opening, reading, borderOrder, BorderRefusal, open-refused, plane-refused}
+use Rattle.format.specs.Refused.Border.{BorderStage, opening, reading, borderOrder, BorderRefusal, BorderFirst, open-refused, plane-refused}
 use Rattle.format.specs.declared.Summary.{Summary}
 
 module _ (s : List ℕ) (room scene t c z : ℕ) (buf : List ℕ) where
@@ -46,6 +46,6 @@ module _ (s : List ℕ) (room scene t c z : ℕ) (buf : List ℕ) where
 
 -- The border call's number is what its first stage that refuses gives.
 pub border-number : (file bytes : List ℕ) (scene t c z : ℕ) (samples : List ℕ)
-    → FirstAt (BorderRefusal file (roomIn (length bytes)) scene t c z samples) borderOrder (borderCall file bytes scene t c z samples .number)
+    → BorderFirst file bytes scene t c z samples (borderCall file bytes scene t c z samples .number)
 unfolding borderCall
 border-number file bytes scene t c z samples = border-first file (roomIn (length bytes)) scene t c z samples

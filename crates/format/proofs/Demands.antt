@@ -17,7 +17,7 @@ use Rattle.format.specs.Demands.{Refuses, FirstDemand, ThirdDemand}
 use Rattle.format.specs.declared.Summary.{Summary}
 use Rattle.format.proofs.Answers.{Numbered, NotZero, refusal}
 use Rattle.format.proofs.Files.{joined-unique, opened-iff-joined}
-use Rattle.format.proofs.OpenNumbers.{open-number, open-number-only}
+use Rattle.format.proofs.OpenNumbers.{open-number, open-number-only, open-table-full}
 use Rattle.format.proofs.BorderNumbers.{border-number, border-number-only}
 use Rattle.format.proofs.Nonzero.{opened-some}
 use Rattle.format.proofs.Sounds.{joined-sound}
@@ -98,6 +98,7 @@ first = record {
   open-refused = λ file table. refused-blank file (roomIn (length table));
   open-number = open-number;
   open-number-only = open-number-only;
+  open-table-full = open-table-full;
   plane-number = plane-number;
   plane-refused = plane-refused;
   tree-number = tree-number;

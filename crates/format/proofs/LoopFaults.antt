@@ -1,9 +1,9 @@
 -- The first refusal of an experiment's loops is the one that the walk gives, or the judging after it. Assumes nothing.
-use Prim.Native.Nat.{ℕ, zero, suc}
+use Prim.Native.Nat.{ℕ, zero, suc, _<_}
 use mathlib.Core.Path.{_≡_, refl, sym, _∙_}
 use mathlib.Core.Bool.{Bool, true, false, cond, true≢false}
 use mathlib.Core.List.{List, [], _∷_, _++_, reverse}
-use lib.Dec.{eqb}
+use lib.Dec.{eqb, lit<}
 use borrow.Author.Tests.{eqb-true, eqb-false, eq-eqb, ne-eqb}
 use Rattle.format.proofs.Answers.{refused≢given, refused-inj, then-given}
 use Rattle.format.proofs.Means.{Means}
@@ -22,7 +22,7 @@ use Rattle.format.specs.Loops.{Built, append, walkAll, walkOne, walk, ax
 use Rattle.format.specs.Grammar.Lists.{All, more}
 use Rattle.format.specs.Grammar.Values.{Field}
 use Rattle.format.specs.Grammar.Loops.{LoopAt, Below, Walks, done, stops, spectral, appends, Free}
-use Rattle.format.specs.Refused.Loops.{WalkFaults, here, below, behind-stop, behind-loop, Misjudged, custom, twice, later}
+use Rattle.format.specs.Refused.Loops.{type-negative, type-other, count-over, WalkFaults, here, below, behind-stop, behind-loop, Misjudged, custom, twice, later}
 use Rattle.format.specs.declared.Entry.{Entry}
 use Rattle.format.specs.declared.Axis.{Axis}
 use Rattle.format.specs.declared.Loop.{Loop}
@@ -98,6 +98,15 @@ module _ (s : List ℕ) (es : List Entry) (D : ℕ → ℕ) (R : Ranked D 0 es) 
       rw (loop-walk m i t c n ks bs x b)
       (whole-on (under m t c n ks bs) _ (under-by Whole m t c n ks bs (walks-pass m ks d cs ds (below-fine m i ks f b) w)) (faults-walk (suc m) js k a q n))
 
+-- its number, 15 or 16, is below 18
+pub walk-number : (s : List ℕ) (es : List Entry) (is : List ℕ) (n : ℕ) → WalkFaults s es is n → (0 < n) × (n < why.table)
+walk-number s es is n (here (type-negative x y)) = (lit< tt, lit< tt)
+walk-number s es is n (here (type-other x y h l f)) = (lit< tt, lit< tt)
+walk-number s es is n (here (count-over x y k h)) = (lit< tt, lit< tt)
+walk-number s es is n (below {ks = ks} x b q) = walk-number s es ks n q
+walk-number s es is n (behind-stop {is = js} x q) = walk-number s es js n q
+walk-number s es is n (behind-loop {is = js} x b w q) = walk-number s es js n q
+
 -- from the experiment's level on
 module _ (s : List ℕ) (es : List Entry) (D : ℕ → ℕ) (R : Ranked D 0 es) (M : Means s es) (i : ℕ) (there : Field s es 0 (ascii "SLxExperiment") (level i)) where
   pub fault-walk : (k : ℕ) → WalkFaults s es (i ∷ []) k → walk mostDepth s es i 0 [] ≡ refused k
@@ -138,6 +147,12 @@ fault-judge ls bs n (twice {b = b} {a = a} o f) = rw (ne-eqb (b .kind) 7 (not-cu
 fault-judge ls bs n (later {b = b} {bs = cs} {a = a} o f m) =
     rw (ne-eqb (b .kind) 7 (not-custom (b .kind) a o), ← on-axis (b .kind) a o, free-has a ls f)
     (fault-judge (ls ++ record { axis = a; count = b .count } ∷ []) cs n m)
+
+-- the number, 15 or 17, is below 18
+pub judge-number : (ls : List Loop) (bs : List Built) (n : ℕ) → Misjudged ls bs n → (0 < n) × (n < why.table)
+judge-number ls bs n (custom h) = (lit< tt, lit< tt)
+judge-number ls bs n (twice o f) = (lit< tt, lit< tt)
+judge-number ls bs n (later {bs = cs} o f m) = judge-number _ cs n m
 
 -- the loops of a walk, in order
 pub judge-read : (s : List ℕ) (es : List Entry) (is : List ℕ) (d : ℕ) (bs : List Built) → Walks s es is d [] bs → (n : ℕ) → judge [] (reverse bs) ≡ refused n

@@ -10,6 +10,7 @@ use Rattle.format.proofs.Answers.{Numbered, NotZero, refusal, answer, a
 use Rattle.format.proofs.Orders.{nonzero, all-in}
 use Rattle.format.proofs.Stages.{decides-numbered}
 use Rattle.format.proofs.Trees.{fault-number, treeFaults}
+use Rattle.format.proofs.LoopFaults.{walk-number, judge-number}
 use Rattle.format.proofs.OpenNumbers.{open-decides}
 use Rattle.format.specs.Answer.{Answer}
 use Rattle.format.specs.Bytes.{ascii}
@@ -17,10 +18,8 @@ use Rattle.format.specs.Values.{fieldIn, bind}
 use Rattle.format.specs.Numbers.{signed}
 use Rattle.format.specs.Loops.{Said, nothing, wrong, loop, said, saidBy, typed, counted, supported, mostCount, pointCount, spectralCount, countField, Built, append, walkAll, walkOne, walk, loopParams}
 use Rattle.format.specs.Calls.Open.{opened}
-use Rattle.format.specs.Refused.Loops.{type-negative, type-other, count-over, WalkFaults, here, below, behind-stop, behind-loop, Misjudged, custom, twice, later}
 use Rattle.format.specs.Refused.Open.{Stage, OpenRefusal, no-mark, old-mark, other-mark, no-tail, wrong-tail, no-map-chunk, no-map, no-entry, no-chunk, table-short, tree-fault, no-sizes, compressed, wrong-bits, wrong-shape, no-level, walk-fault, misjudged, plane-over, calibration-short}
 use Rattle.format.specs.declared.Entry.{Entry}
-use Rattle.format.specs.declared.Loop.{Loop}
 
 -- an answer whose refusals are not 0
 abbrev Some : {A : Type 0} → Answer A → Type 0
@@ -79,19 +78,6 @@ walk-some (suc levels) s es i n bs = one-some (walk levels s es) (walk-some leve
 
 -- ---- opening
 
-faults-some : (s : List ℕ) (es : List Entry) (is : List ℕ) (n : ℕ) → WalkFaults s es is n → NotZero n
-faults-some s es is n (here (type-negative x y)) = lit< tt
-faults-some s es is n (here (type-other x y h l f)) = lit< tt
-faults-some s es is n (here (count-over x y k h)) = lit< tt
-faults-some s es is n (below {ks = ks} x b q) = faults-some s es ks n q
-faults-some s es is n (behind-stop {is = js} x q) = faults-some s es js n q
-faults-some s es is n (behind-loop {is = js} x b w q) = faults-some s es js n q
-
-misjudged-some : (ls : List Loop) (bs : List Built) (n : ℕ) → Misjudged ls bs n → NotZero n
-misjudged-some ls bs n (custom h) = lit< tt
-misjudged-some ls bs n (twice o f) = lit< tt
-misjudged-some ls bs n (later {bs = cs} o f m) = misjudged-some _ cs n m
-
 stage-some : (s : List ℕ) (room : ℕ) (a : Stage) (n : ℕ) → OpenRefusal s room a n → NotZero n
 stage-some s room a n (no-mark h) = lit< tt
 stage-some s room a n (old-mark h e) = lit< tt
@@ -109,8 +95,8 @@ stage-some s room a n (compressed x f) = lit< tt
 stage-some s room a n (wrong-bits x f) = lit< tt
 stage-some s room a n (wrong-shape x f) = lit< tt
 stage-some s room a n (no-level x f) = lit< tt
-stage-some s room a n (walk-fault {es = es} {i = i} x f) = faults-some s es (i ∷ []) n f
-stage-some s room a n (misjudged x w f) = misjudged-some [] _ n f
+stage-some s room a n (walk-fault {es = es} {i = i} x f) = walk-number s es (i ∷ []) n f .0
+stage-some s room a n (misjudged x w f) = judge-number [] _ n f .0
 stage-some s room a n (plane-over x h) = lit< tt
 stage-some s room a n (calibration-short x) = lit< tt
 

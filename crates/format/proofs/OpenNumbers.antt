@@ -12,7 +12,7 @@ use lib.Ieee.{Float}
 use borrow.Author.Tests.{ltb-true, ltb-false, leb-true, leb-false, eqb-true, eqb-false, not-true, not-false}
 use Rattle.format.proofs.Tests.{same-true, true-same}
 use Rattle.format.proofs.Answers.{refused≢given, given-inj, none≢some}
-use Rattle.format.proofs.Stages.{DecidesAt, stops, gives, goes, tests, needs, stage, stage-one, decides-then, decides-first, first-once}
+use Rattle.format.proofs.Stages.{DecidesAt, stops, gives, goes, tests, needs, stage, stage-one, decides-then, decides-first, first-from, first-once}
 use Rattle.format.proofs.Chunks.{chunk-read, read-chunk, chunk-unique, chunk-numbered}
 use Rattle.format.proofs.Maps.{read-map, map-numbered, listed-read, read-listed}
 use Rattle.format.proofs.Named.{range-read, mapped-read, mapped-unique, named-read, tree-given, tree-means}
@@ -23,7 +23,8 @@ use Rattle.format.proofs.Fields.{level-at, unsigned-in, signed-in}
 use Rattle.format.proofs.Summaries.{bits-good, good-bits, shape-good, good-shape}
 use Rattle.format.proofs.AttributesOf.{attributes-read, below-some, some-below, two-uncompressed, uncompressed-two}
 use Rattle.format.proofs.Walks.{levels-read, walk-fault-read}
-use Rattle.format.proofs.LoopFaults.{judge-read, fault-judge}
+use Rattle.format.proofs.LoopFaults.{walk-number, judge-number, judge-read, fault-judge}
+use Rattle.format.proofs.Suffices.{fault-low}
 use Rattle.format.proofs.Calibrated.{calibration-read, calibration-stops}
 use Rattle.format.proofs.OpenParts.{chunk-in, chunk-at-unique, tree-at-unique, sizes-unique, experiment-unique, refused-walk, given-walk, stage-once}
 use Rattle.format.specs.Answer.{refused, given}
@@ -43,6 +44,7 @@ use Rattle.format.specs.Grammar.Trees.{Tree}
 use Rattle.format.specs.Grammar.Values.{Field}
 use Rattle.format.specs.Grammar.Numbers.{Signed}
 use Rattle.format.specs.Grammar.Attributes.{Bits, Shape, Sized}
+use Rattle.format.specs.Grammar.Table.{TreeRead, attributes as attributesRead, experiment as experimentRead, calibration as calibrationRead}
 use Rattle.format.specs.Refused.Order.{FirstAt}
 use Rattle.format.specs.Refused.Open.{Needed, attributes, experiment, needed, Stage, first-mark, tail, map-chunk, map, entry, chunk, table, fault, sizes, compression, bits, shape, experiment-level, walk, judged, plane, calibration, openOrder, MapChunk, ChunkAt, TreeAt, TooMany, SizesAt, ExperimentAt, OpenRefusal}
 use Rattle.format.specs.Refused.Open.{no-mark, old-mark, other-mark, no-tail, wrong-tail, no-map-chunk, no-map, no-entry, no-chunk, table-short, tree-fault, no-sizes, compressed, wrong-bits, wrong-shape, no-level, walk-fault, misjudged, plane-over, calibration-short}
@@ -328,3 +330,36 @@ open-number file bytes = decides-first (open-decides file (roomIn (length bytes)
 -- No other number is.
 pub open-number-only : (file : List ℕ) (room n m : ℕ) → FirstAt (OpenRefusal file room) openOrder n → FirstAt (OpenRefusal file room) openOrder m → n ≡ m
 open-number-only file room n m x y = first-once (stage-once file room) x y
+
+-- ---- 18
+
+-- a stage that refuses with 18 has a tree with more records than the table has entries
+full : (s : List ℕ) (room : ℕ) (a : Stage) (n : ℕ) → OpenRefusal s room a n → n ≡ why.table → (name : List ℕ) × TreeRead name × TooMany s name room
+unfolding ascii
+full s room a n (no-mark h) e = absurd (omega arith)
+full s room a n (old-mark h f) e = absurd (omega arith)
+full s room a n (other-mark h f g) e = absurd (omega arith)
+full s room a n (no-tail h) e = absurd (omega arith)
+full s room a n (wrong-tail h f) e = absurd (omega arith)
+full s room a n (no-map-chunk f) e = absurd (omega arith)
+full s room a n (no-map x f) e = absurd (omega arith)
+full s room a n (no-entry x f) e = absurd (omega arith)
+full s room a n (no-chunk x l f) e = absurd (omega arith)
+full s room a n (table-short {w = attributes} x) e = (needed attributes, attributesRead, x)
+full s room a n (table-short {w = experiment} x) e = (needed experiment, experimentRead, x)
+full s room a n (tree-fault {r = r} x f) e = let low = fault-low s r n (read-fault s r n f) in absurd (omega arith)
+full s room a n (no-sizes x f) e = absurd (omega arith)
+full s room a n (compressed x f) e = absurd (omega arith)
+full s room a n (wrong-bits x f) e = absurd (omega arith)
+full s room a n (wrong-shape x f) e = absurd (omega arith)
+full s room a n (no-level x f) e = absurd (omega arith)
+full s room a n (walk-fault {es = es} {i = i} x f) e = let h = walk-number s es (i ∷ []) n f in absurd (omega arith)
+full s room a n (misjudged x w f) e = let h = judge-number [] _ n f in absurd (omega arith)
+full s room a n (plane-over x h) e = absurd (omega arith)
+full s room a n (calibration-short x) e = (ascii "ImageCalibrationLV|0!", calibrationRead, x)
+
+pub open-table-full : (file bytes : List ℕ) → openCall file bytes .number ≡ why.table
+    → (name : List ℕ) × TreeRead name × TooMany file name (roomIn (length bytes))
+open-table-full file bytes e =
+    let (a, h) = first-from (open-number file bytes) (λ z. absurd (omega arith)) in
+    full file (roomIn (length bytes)) a (openCall file bytes .number) h e

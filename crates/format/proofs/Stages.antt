@@ -70,6 +70,12 @@ module _ {S : Type 0} {P : S → ℕ → Type 0} where
   decides-numbered f gives = answer
   decides-numbered f (goes h d) = decides-numbered f d
 
+  -- a number that is not 0 comes from a stage
+  pub first-from : {stages : List S} {n : ℕ} → FirstAt P stages n → (n ≡ 0 → ⊥) → (a : S) × P a n
+  first-from accepted f = absurd (f refl)
+  first-from (first {a = a} h) f = (a, h)
+  first-from (passed g r) f = first-from r f
+
   -- where each stage has one number, so has the call
   pub first-once : ((a : S) (n m : ℕ) → P a n → P a m → n ≡ m) → {stages : List S} {n m : ℕ} → FirstAt P stages n → FirstAt P stages m → n ≡ m
   first-once f accepted accepted = refl

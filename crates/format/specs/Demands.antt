@@ -19,14 +19,15 @@ use Rattle.format.specs.Calls.Border.{borderCall}
 use Rattle.format.specs.Grammar.Trees.{Tree, PassedIn}
 use Rattle.format.specs.Grammar.Frames.{FrameNumber, AxisCount, FrameCount, FrameName}
 use Rattle.format.specs.Grammar.File.{Joined}
-use Rattle.format.specs.Grammar.Table.{Enough}
+use Rattle.format.specs.Grammar.Table.{TreeRead, Enough}
+use Rattle.format.specs.Refusals as why
 use Rattle.format.specs.Refused.Order.{First, FirstAt}
 use Rattle.format.specs.Refused.Summary.{Sound, Blank}
 use Rattle.format.specs.Refused.Plane.{Within, FrameData, PlaneRefusal, planeOrder, Copied}
 use Rattle.format.specs.Refused.Tree.{NameData, TreeRefusal, treeOrder, Tabled}
 use Rattle.format.specs.Refused.Channels.{ChannelsRefusal, channelsOrder, Recorded, Emptied}
-use Rattle.format.specs.Refused.Open.{OpenRefusal, openOrder}
-use Rattle.format.specs.Refused.Border.{BorderRefusal, borderOrder}
+use Rattle.format.specs.Refused.Open.{TooMany, OpenRefusal, openOrder}
+use Rattle.format.specs.Refused.Border.{BorderRefusal, borderOrder, BorderFirst}
 use Rattle.format.specs.Refused.Register.{RegisterRefusal, registerOrder, Registered}
 use Rattle.format.specs.declared.Range.{Range}
 use Rattle.format.specs.declared.Axis.{Axis}
@@ -50,6 +51,9 @@ pub record FirstDemand : Type 0 where
   pub open-refused : (file table : List ℕ) → Refuses (openCall file table .number) → Blank (openCall file table .summary)
   pub open-number : (file table : List ℕ) → FirstAt (OpenRefusal file (roomIn (length table))) openOrder (openCall file table .number)
   pub open-number-only : (file : List ℕ) (room n m : ℕ) → FirstAt (OpenRefusal file room) openOrder n → FirstAt (OpenRefusal file room) openOrder m → n ≡ m
+  -- "table" is not said with entries left: 18 is the number only where more records of a tree that opening reads pass than the table has entries
+  pub open-table-full : (file table : List ℕ) → openCall file table .number ≡ why.table
+      → (name : List ℕ) × TreeRead name × TooMany file name (roomIn (length table))
   pub plane-number : (file : List ℕ) (u : Summary) (scene t c z : ℕ) (samples : List ℕ)
       → First (PlaneRefusal file u scene t c z samples) planeOrder (planeCall file u scene t c z samples .number)
   pub plane-refused : (file : List ℕ) (u : Summary) (scene t c z : ℕ) (samples : List ℕ)
@@ -76,7 +80,7 @@ pub record FirstDemand : Type 0 where
   pub register-frames : (file : List ℕ) (u : Summary) (buf : List ℕ)
       → registerCall file u buf .number ≡ 0 → Registered file u buf (registerCall file u buf .buffer)
   pub border-number : (file table : List ℕ) (scene t c z : ℕ) (samples : List ℕ)
-      → FirstAt (BorderRefusal file (roomIn (length table)) scene t c z samples) borderOrder (borderCall file table scene t c z samples .number)
+      → BorderFirst file table scene t c z samples (borderCall file table scene t c z samples .number)
   pub border-number-only : (file : List ℕ) (room scene t c z : ℕ) (samples : List ℕ) (n m : ℕ)
       → FirstAt (BorderRefusal file room scene t c z samples) borderOrder n
       → FirstAt (BorderRefusal file room scene t c z samples) borderOrder m → n ≡ m

@@ -1,5 +1,5 @@
--- Opening: "1 or 2, 3, map chunk, 5; attributes (11, chunk, tree, 11, 12, 13, 14); experiment (11, chunk, tree, 11, loops); plane product 14". "Opening reads
--- calibration last .. only 18 stops it there." The table has `room` whole entries.
+-- Opening, by stages, since 4, 11, 14, 15, 18 and a tree's faults come more than once: when each of them refuses, and with which number. "Opening reads
+-- calibration last .. only 18 stops it there." s is the file, and the table has `room` whole entries.
 use Prim.Native.Nat.{ℕ, _-_, _≤_, _<_}
 use mathlib.Core.Path.{_≡_}
 use mathlib.Core.List.{List, [], _∷_, reverse}
@@ -55,6 +55,8 @@ pub data Stage : Type 0 where
   plane : Stage
   calibration : Stage
 
+-- "1 or 2, 3, map chunk, 5; attributes (11, chunk, tree, 11, 12, 13, 14); experiment (11, chunk, tree, 11, loops); plane product 14", and 18 of the
+-- calibration. Of a tree's own refusals 18 comes before a later fault.
 abbrev pub openOrder : List Stage
 openOrder =
     first-mark ∷ tail ∷ map-chunk ∷ map
