@@ -55,13 +55,12 @@ module _ (s : List ℕ) (es : List Entry) where
 pub data Finite : Float → Type 0 where
   number : {sign : Bool} {m : ℕ} {e : ℤ} → Finite (fin sign m e)
 
--- "a positive finite number"
+-- a step that is a distance: above 0 and finite
 pub record Distance (x : Float) : Type 0 where
   pub above-0 : lt zeroFloat x ≡ true
   pub finite : Finite x
 
--- The class of the step that was found, and the z that is kept. "In f32: class 0 none or not a positive finite number, 1 used (1e-6 to 1e3), 2 smaller,
--- 3 larger. Only class 1 keeps z."
+-- The class of the step that was found, rounded to f32, and the z that is kept: only a step within the limits, of class 1, is.
 pub data Classed : Option Float → ℕ → Float → Type 0 where
   no-step : Classed none 0 zeroFloat
   no-distance : {x : Float} → (Distance (narrow x) → ⊥) → Classed (some x) 0 zeroFloat
@@ -82,9 +81,8 @@ pub record PixelSize (s : List ℕ) (es : List Entry) (x : Float) : Type 0 where
 abbrev pub CalibrationAt : List ℕ → List ℕ → List MapEntry → Range → Type 0
 CalibrationAt s m es r = Named s m es (ascii "ImageCalibrationLV|0!") r
 
--- What calibration gives, where z is the step that was found. "rounded to f32 nearest-even, is x and y alike (state 1)"; "A tree that ends in 8 gives
--- state 2, the rest zero; without such a dCalibration, and on a missing chunk or any other fault of chunk or tree, 18 excepted, nothing is stated, z and
--- its class neither (all zero)".
+-- What calibration gives, where z is the step that was found: a pixel size makes state 1, a tree that ends at a packed record state 2, and all else state 0;
+-- without a pixel size every other number is zero.
 pub data Calibrated (s m : List ℕ) (es : List MapEntry) (z : Option Float) : Calibration → Type 0 where
   sized : {r : Range} {ts : List Entry} {x : Float} {c : ℕ} {y : Float} → CalibrationAt s m es r → Tree s r ts → PixelSize s ts x → Classed z c y
       → Calibrated s m es z (record { state = 1; size = narrow x; class = c; z = y })

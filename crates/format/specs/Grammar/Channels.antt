@@ -9,7 +9,7 @@ use Rattle.format.specs.Grammar.Numbers.{Unsigned}
 use Rattle.format.specs.declared.Entry.{Entry}
 use Rattle.format.specs.declared.Channel.{Channel}
 
--- "empty ones": all seven numbers are 0
+-- an empty record: all seven numbers are 0
 pub record Empty (c : Channel) : Type 0 where
   pub not-named : c .named ≡ 0
   pub no-place : c .name ≡ 0
@@ -19,7 +19,7 @@ pub record Empty (c : Channel) : Type 0 where
   pub no-green : c .green ≡ 0
   pub no-blue : c .blue ≡ 0
 
--- v is four bytes, "low byte red, then green, blue"; the top one is in no record
+-- v is four bytes, the lowest first: red, green, blue, and one that is in no record
 pub record ColorBytes (v red green blue : ℕ) : Type 0 where
   pub top : ℕ
   pub sum : v ≡ red + 256 * green + 65536 * blue + 16777216 * top
@@ -31,12 +31,12 @@ pub record ColorBytes (v red green blue : ℕ) : Type 0 where
 module _ (s : List ℕ) (es : List Entry) where
   -- ---- one record
 
-  -- "sDescription (state 1, place, units; all 0 if absent or empty)": text of one unit or more
+  -- the name: sDescription, where it is a text of one unit or more, its place and units; else three zeros
   pub data Described (i : ℕ) : ℕ → ℕ → ℕ → Type 0 where
     name : {place units : ℕ} → Field s es (suc i) (ascii "sDescription") (text place units) → 0 < units → Described i 1 place units
     no-name : ((place units : ℕ) → Field s es (suc i) (ascii "sDescription") (text place units) → 0 < units → ⊥) → Described i 0 0 0
 
-  -- "uiColor (state 1, low byte red, then green, blue; all 0 if absent or over u32)"
+  -- the colour: uiColor, where it reads as a number of four bytes; else four zeros
   pub data Colored (i : ℕ) : ℕ → ℕ → ℕ → ℕ → Type 0 where
     color : {v red green blue : ℕ} → Unsigned s es i (ascii "uiColor") v → v < 2 ^ 32 → ColorBytes v red green blue → Colored i 1 red green blue
     no-color : ((v : ℕ) → Unsigned s es i (ascii "uiColor") v → v < 2 ^ 32 → ⊥) → Colored i 0 0 0 0
@@ -53,19 +53,19 @@ module _ (s : List ℕ) (es : List Entry) where
 
   -- ---- the planes
 
-  -- "SLxPictureMetadata, sPicturePlanes": the level j
+  -- the level j is sPicturePlanes in SLxPictureMetadata
   pub record PicturePlanes (j : ℕ) : Type 0 where
     pub metadata : ℕ
     pub metadata-there : Field s es 0 (ascii "SLxPictureMetadata") (level metadata)
     pub planes-there : Field s es (suc metadata) (ascii "sPicturePlanes") (level j)
 
-  -- "level sPlaneNew, else sPlane": the entry of the level whose children are the planes. An empty level sPlaneNew is one too.
+  -- The entry of the level whose children are the planes: sPlaneNew, an empty one too, or sPlane where sPlaneNew is no level.
   pub data PlanesAt : ℕ → Type 0 where
     new : {i j : ℕ} → PicturePlanes j → Field s es (suc j) (ascii "sPlaneNew") (level i) → PlanesAt i
     old : {i j : ℕ} → PicturePlanes j → ((k : ℕ) → Field s es (suc j) (ascii "sPlaneNew") (level k) → ⊥) → Field s es (suc j) (ascii "sPlane") (level i)
         → PlanesAt i
 
-  -- "one record per child level", and none without such a level
+  -- a record for each child that is a level, and none without such a level
   pub data Planes : List Channel → Type 0 where
     planes : {i : ℕ} {is : List ℕ} {cs : List Channel} → PlanesAt i → LevelsIn s es (level i) is → Records is cs → Planes cs
     no-planes : ((i : ℕ) → PlanesAt i → ⊥) → Planes []

@@ -1,4 +1,4 @@
--- "The grammar": "By its bytes alone a file is joined to a summary".
+-- "The grammar": a file and its summary.
 use Prim.Native.Nat.{ℕ, _≤_, _<_}
 use mathlib.Core.Path.{_≡_}
 use mathlib.Core.Option.{Option, some}
@@ -25,8 +25,7 @@ use Rattle.format.specs.Grammar.Attributes.{AttributesOf}
 use Rattle.format.specs.Grammar.Loops.{LoopsOf}
 use Rattle.format.specs.Grammar.Calibration.{Steps, Calibrated}
 
--- u is the summary of a map's data m, attributes a, loops ls and a calibration c: "just these sizes and bits, the map data's place and length, the
--- appended loops in order and what Calibration gives". Of its three places for loops, those that are not used have the axis T and the count 0.
+-- u is the summary of a map's data m, attributes a, loops ls and a calibration c, field by field. Of its three places for loops, those that are not used have the axis T and the count 0.
 pub record SummaryOf (m : Range) (a : Attributes) (ls : List Loop) (c : Calibration) (u : Summary) : Type 0 where
   pub width : u .width ≡ a .width
   pub stride : u .stride ≡ a .stride
@@ -44,8 +43,8 @@ pub record SummaryOf (m : Range) (a : Attributes) (ls : List Loop) (c : Calibrat
   pub class : u .class ≡ c .class
   pub z : u .z ≡ c .z
 
--- "when first mark, locator, map, both needed chunks and their trees are formed as above, within each limit; of 11 to 17 none holds; and the summary has just
--- these sizes and bits, the map data's place and length, the appended loops in order and what Calibration gives"
+-- A file is joined to the summary u: its map, its attributes and its experiment are formed by their rules, the plane is not too large, and u says just what
+-- these and the calibration give.
 pub record Joined (s : List ℕ) (u : Summary) : Type 0 where
   pub map-place : Range
   pub map-entries : List MapEntry

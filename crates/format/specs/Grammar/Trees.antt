@@ -64,13 +64,13 @@ pub record Level (d : List ℕ) (i e : ℕ) : Type 0 where
 
 -- ---- entries
 
--- how many units of a name of so many are kept: "The name's last unit is dropped unchecked"
+-- how many units of a name of so many are kept: all but the last
 pub data NameUnits : ℕ → ℕ → Type 0 where
   unnamed : NameUnits 0 0
   but-last : {n : ℕ} → NameUnits (suc n) n
 
--- The entry of the record at i, whose value is the len bytes from `from` on. "Entries are six u64: type, name position, name units kept, value position
--- .., value bytes .., parent entry plus one. Positions count from the file's start."
+-- The entry of the record at i, whose value is the len bytes from `from` on; positions count from the
+-- file's start, and `parent` is its level's entry plus one.
 pub record EntryOf (d : List ℕ) (base parent i from len : ℕ) (en : Entry) : Type 0 where
   pub kind : en .kind ≡ getD d i 0
   pub name : en .name ≡ base + i + 2

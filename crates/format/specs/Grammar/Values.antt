@@ -23,7 +23,7 @@ pub data Complement (half n : ℕ) : ℤ → Type 0 where
   -- no bytes stand for such an n: it takes a list with a number over 255
   beyond : half + half ≤ n → Complement half n (negsuc 0)
 
--- The value of an entry that is no level: "1 bool (one byte), 2 i32, 3 u32, 4 i64, 5 u64, 6 f64, 7 u64 pointer, 8 text .., 9 .. bytes". A flag is set
+-- The value of an entry that is no level, by its type ("Trees"). A flag is set
 -- where its byte is not 0, and a text has a unit for every two of its bytes.
 pub data LeafOf (s : List ℕ) (e : Entry) : Value → Type 0 where
   of-unset : e .kind ≡ 1 → leAt 1 s (e .value) ≡ 0 → LeafOf s e (flag false)

@@ -1,4 +1,4 @@
--- The border call: opening's refusals, then those of a plane of the summary that the file is joined to. "The first refusal is its answer."
+-- The border call: opening's refusals, then those of a plane of the summary that the file is joined to.
 use Prim.Native.Nat.{ℕ}
 use mathlib.Core.List.{List, _++_, map}
 use lib.ListN.{length}

@@ -1,4 +1,4 @@
--- The channels call: "20, 5, 19, 18", and what it leaves in the row.
+-- The channels call: its refusals in their order, and what it leaves in the row.
 use Prim.Native.Nat.{ℕ, _<_, _≤_}
 use mathlib.Core.Path.{_≡_}
 use mathlib.Core.Option.{some}
@@ -28,13 +28,13 @@ pub data ChannelsRefusal (s : List ℕ) (u : Summary) (room n : ℕ) : ℕ → T
 abbrev pub channelsOrder : List ℕ
 channelsOrder = why.summary ∷ why.map ∷ why.channelRow ∷ why.table ∷ []
 
--- the records of the planes of the summary's file: "a missing or failing chunk or tree .. gives only empty ones"
+-- the records of the planes of the summary's file: none where the chunk is missing, or it or its tree is at fault
 pub data RecordsOf (s : List ℕ) (u : Summary) : List Channel → Type 0 where
   stated : {r : Range} {es : List Entry} {cs : List Channel} → NameData s u (ascii "ImageMetadataSeqLV|0!") r → Tree s r es → Planes s es cs
       → RecordsOf s u cs
   unstated : ((r : Range) (es : List Entry) → NameData s u (ascii "ImageMetadataSeqLV|0!") r → Tree s r es → ⊥) → RecordsOf s u []
 
--- record i of a row, "one for each component": "Cut or padded with empty ones", "surplus records zero"
+-- record i of a row: that of plane i, where there is a component i; an empty one where there is no such plane, and behind the components
 pub data RecordAt (s : List ℕ) (u : Summary) (i : ℕ) (c : Channel) : Type 0 where
   of-plane : {cs : List Channel} → RecordsOf s u cs → i < u .components → getElem? cs i ≡ some c → RecordAt s u i c
   padded : {cs : List Channel} → RecordsOf s u cs → length cs ≤ i → Empty c → RecordAt s u i c

@@ -1,4 +1,4 @@
--- The refusals of loops: 15 and 16 in the walk, and "after it the appended loops are judged in order: a 7 gives 15, a second one of an axis 17". i is the
+-- The refusals of loops ("Loops"): 15 and 16 in the walk, then 15 and 17 of the appended ones, in their order. i is the
 -- number of an experiment level's entry.
 use Prim.Native.Nat.{ℕ, _≤_, _<_}
 use mathlib.Core.Path.{_≡_}
@@ -13,7 +13,7 @@ use Rattle.format.specs.declared.Entry.{Entry}
 use Rattle.format.specs.declared.Axis.{Axis}
 use Rattle.format.specs.declared.Loop.{Loop}
 
--- "Types 1 and 8 are T, 2 P, 4 Z, 6 spectral (never appended), 7 custom; others are refused in the walk (15)"
+-- the types that the walk takes; of these a spectral loop is never appended, and a custom one is refused after the walk
 pub data LoopType : ℕ → Type 0 where
   time : LoopType 1
   points : LoopType 2

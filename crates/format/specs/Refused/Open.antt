@@ -1,5 +1,5 @@
--- Opening, by stages, since 4, 11, 14, 15, 18 and a tree's faults come more than once: when each of them refuses, and with which number. "Opening reads
--- calibration last .. only 18 stops it there." s is the file, and the table has `room` whole entries.
+-- Opening, by stages, since 4, 11, 14, 15, 18 and a tree's faults come more than once: when each of them refuses, and with which number. Of the
+-- calibration, which is read last, only a full table refuses. s is the file, and the table has `room` whole entries.
 use Prim.Native.Nat.{ℕ, _-_, _≤_, _<_}
 use mathlib.Core.Path.{_≡_}
 use mathlib.Core.List.{List, [], _∷_, reverse}
@@ -55,8 +55,8 @@ pub data Stage : Type 0 where
   plane : Stage
   calibration : Stage
 
--- "1 or 2, 3, map chunk, 5; attributes (11, chunk, tree, 11, 12, 13, 14); experiment (11, chunk, tree, 11, loops); plane product 14", and 18 of the
--- calibration. Of a tree's own refusals 18 comes before a later fault.
+-- The order of document 01 for opening ("Why a file is turned away"), and last the calibration's 18. Of a tree's own refusals 18 comes before a later
+-- fault.
 abbrev pub openOrder : List Stage
 openOrder =
     first-mark ∷ tail ∷ map-chunk ∷ map
@@ -83,7 +83,7 @@ pub record TreeAt (s name : List ℕ) (es : List Entry) : Type 0 where
   pub chunk : ChunkAt s name place
   pub formed : Tree s place es
 
--- "a record needs an entry and none is left": more than `room` records of the tree in that chunk pass
+-- row 18: more than `room` records of the tree in that chunk pass
 pub record TooMany (s name : List ℕ) (room : ℕ) : Type 0 where
   pub place : Range
   pub chunk : ChunkAt s name place
@@ -104,11 +104,11 @@ pub record ExperimentAt (s : List ℕ) (es : List Entry) (i : ℕ) : Type 0 wher
 -- ---- when each stage refuses, and with which number
 
 pub data OpenRefusal (s : List ℕ) (room : ℕ) : Stage → ℕ → Type 0 where
-  -- "under 4 bytes, or first u32 neither 0x0ABECEDA nor legacy"; "first u32 is 0x0C000000"
+  -- rows 1 and 2: the first four bytes
   no-mark : length s < 4 → OpenRefusal s room first-mark why.foreign
   old-mark : 4 ≤ length s → leAt 4 s 0 ≡ 0x0C000000 → OpenRefusal s room first-mark why.legacy
   other-mark : 4 ≤ length s → (leAt 4 s 0 ≡ 0x0C000000 → ⊥) → (leAt 4 s 0 ≡ chunkMark → ⊥) → OpenRefusal s room first-mark why.foreign
-  -- "under 40 bytes, or locator mark wrong"
+  -- row 3: the last forty bytes
   no-tail : length s < 40 → OpenRefusal s room tail why.tail
   wrong-tail : 40 ≤ length s → (part s (length s - 40) 32 ≡ endMark → ⊥) → OpenRefusal s room tail why.tail
   -- the map chunk breaks a chunk's rule, or its data the map's
@@ -134,7 +134,7 @@ pub data OpenRefusal (s : List ℕ) (room : ℕ) : Stage → ℕ → Type 0 wher
   walk-fault : {es : List Entry} {i n : ℕ} → ExperimentAt s es i → WalkFaults s es (i ∷ []) n → OpenRefusal s room walk n
   misjudged : {es : List Entry} {i n : ℕ} {bs : List Built} → ExperimentAt s es i → Walks s es (i ∷ []) 0 [] bs → Misjudged [] (reverse bs) n
       → OpenRefusal s room judged n
-  -- "the plane product width × height × sample bytes, past 2^64 − 1"
+  -- row 14 again: the bytes of a plane, judged after the loops
   plane-over : {es : List Entry} {i : ℕ} {a : Attributes} → SizesAt s es i a → most64 < planeBytes a → OpenRefusal s room plane why.frameShape
   -- of the calibration's chunk or tree no other fault refuses the file
   calibration-short : TooMany s (ascii "ImageCalibrationLV|0!") room → OpenRefusal s room calibration why.table

@@ -23,7 +23,7 @@ pub record Sound (s : List ℕ) (u : Summary) : Type 0 where
   pub loops-distinct : Distinct (loopsOf u)
   pub map-within : u .map .start + u .map .len ≤ length s
 
--- "summary (all zero if refused)": the three places for loops are not used, with the axis T and the count 0
+-- a summary of zeros, as a refused opening returns: the three places for loops are not used, with the axis T and the count 0
 pub record Blank (u : Summary) : Type 0 where
   pub loops : u .loops ≡ replicate 3 (record { axis = T; count = 0 })
   pub depth : u .depth ≡ 0

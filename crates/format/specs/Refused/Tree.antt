@@ -49,8 +49,7 @@ abbrev pub treeOrder : List ℕ
 treeOrder =
     why.summary ∷ why.map ∷ why.missing ∷ why.chunk ∷ why.table ∷ why.cut ∷ why.kind ∷ why.packed ∷ why.deep ∷ why.level ∷ []
 
--- The entry e stands in the table from i on. "Entries are six u64: type, name position, name units kept, value position .., value bytes .., parent entry
--- plus one."
+-- The entry e stands in the table from i on, each of its six numbers in eight bytes. No file has 2^64 bytes, so that the remainder is the number itself.
 pub record EntryAt (table : List ℕ) (i : ℕ) (e : Entry) : Type 0 where
   pub kind : leAt 8 table i ≡ e .kind % 2 ^ 64
   pub name : leAt 8 table (i + 8) ≡ e .name % 2 ^ 64
@@ -59,7 +58,7 @@ pub record EntryAt (table : List ℕ) (i : ℕ) (e : Entry) : Type 0 where
   pub size : leAt 8 table (i + 32) ≡ e .size % 2 ^ 64
   pub parent : leAt 8 table (i + 40) ≡ e .parent % 2 ^ 64
 
--- `out` is what an accepted tree of the entries es leaves in a table of n bytes: "One entry per record read, in file order; the rest zero."
+-- `out` is what an accepted tree of the entries es leaves in a table of n bytes: these in file order, and zeros behind them
 pub record Tabled (es : List Entry) (n : ℕ) (out : List ℕ) : Type 0 where
   pub entry : (k : ℕ) (e : Entry) → getElem? es k ≡ some e → EntryAt out (48 * k) e
   pub fits : 48 * length es ≤ n
