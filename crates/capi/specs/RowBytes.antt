@@ -9,7 +9,7 @@ use Rattle.format.specs.declared.Channel.{Channel}
 use Rattle.format.specs.declared.Summary.{Summary}
 use Rattle.layout.specs.Layout.{summaryFrom, channelRowBytes}
 
--- `out` is what a row of n bytes holds afterwards: as many records of 56 bytes as fit, those that the rules say of the summary in the bytes, and zeros behind them
+-- `out` is what a row of n bytes holds afterwards: as many records of 56 bytes as fit, each as the rules say of the summary u, and zeros behind them
 pub record RowOn (file summary : List ℕ) (n : ℕ) (out : List ℕ) : Type 0 where
   pub u : Summary
   pub said : summaryFrom summary ≡ some u

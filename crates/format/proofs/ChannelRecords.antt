@@ -29,7 +29,8 @@ use Rattle.format.specs.Calls.Channels.{recordsBy, recordsOf, rowBy, cha
 use Rattle.format.specs.Grammar.Trees.{Tree}
 use Rattle.format.specs.Grammar.Channels.{Empty}
 use Rattle.format.specs.Refused.Tree.{NameData, TableShort}
-use Rattle.format.specs.Refused.Channels.{row as row-short, channelsOrder, RecordsOf, stated, unstated, RecordAt, of-plane, padded, surplus, Recorded, Emptied}
+use Rattle.format.specs.Refused.Channels.{row as row-short, channelsOrder, RecordsOf, stated, unstated}
+use Rattle.format.specs.Refused.Channels.{RecordAt, of-plane, padded, surplus, Recorded, Emptied}
 use Rattle.format.specs.declared.Range.{Range}
 use Rattle.format.specs.declared.Entry.{Entry}
 use Rattle.format.specs.declared.Channel.{Channel}
