@@ -6,6 +6,8 @@ ghost use lib.Seq.{sets};
 ghost use Rattle.format.specs.Bytes.{leAt, leBytes, zeros};
 ghost use Rattle.cursor.specs.Words.{Within, wordAt, GoodWord};
 
+pub mod record; // a record's head, its value, a level's header
+
 // A byte as a number.
 pub fn wide(x: u8) -> u64
     ensures { λ r. ⌜ (r ≡ x) × (r < 256) ⌝ }

@@ -4,7 +4,7 @@ use native.Mathlib.Omega.{arith}
 use denote.Ref.{now}
 use Rattle.cursor.specs.Words.{wordAt}
 use Rattle.cursor.specs.declared.Word.the-variants.{Got}
-use Rattle.tree.proofs.Answers.{head-none, head-half, Begun, head-begun}
+use Rattle.cursor.proofs.Answers.{head-none, head-half, Begun, head-begun}
 use borrow.Author.Needs.{needs}
 use Rattle.tree.proofs.read_head.Statement.{statement}
 use Rattle.tree.proofs.read_head.Tie as tie

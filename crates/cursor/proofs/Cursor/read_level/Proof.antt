@@ -1,17 +1,17 @@
--- `tree::read_level` judges a level's header in the format's order.
+-- `Cursor::read_level` judges a level's header in the format's order.
 use mathlib.Core.Path.{sym, _∙_}
 use native.Mathlib.Omega.{arith}
 use denote.Ref.{now}
 use Rattle.cursor.specs.Words.{GoodWord}
 use Rattle.cursor.specs.declared.Word.the-variants.{Got}
-use Rattle.tree.proofs.Answers.{level-uncounted, level-many, level-unsized, level-short, level-past, level-inner}
+use Rattle.cursor.proofs.Answers.{level-uncounted, level-many, level-unsized, level-short, level-past, level-inner}
 use borrow.Author.Needs.{needs}
-use Rattle.tree.proofs.read_level.Statement.{statement}
-use Rattle.tree.proofs.read_level.Tie as tie
+use Rattle.cursor.proofs.Cursor.read_level.Statement.{statement}
+use Rattle.cursor.proofs.Cursor.read_level.Tie as tie
 
 -- the cursors after the two numbers
 first : (c : tie.After-count)
-    → GoodWord (now (c .before .before .before .before .args .d)) (c .before .before .before .before .args .c) 4
+    → GoodWord (now (c .before .before .before .before .args .d)) (c .before .before .before .before .args .self) 4
     (Got (c .count .given .0 .0) (c .count .given .0 .1 .0))
 first c = rw (c .count .given .1) at (c .before .before .read-u32 .ensures .1)
 

@@ -12,16 +12,16 @@ use Rattle.format.specs.Bytes.{leAt}
 use Rattle.format.specs.Text.{units}
 use Rattle.format.specs.Trees.{at, fault, Read, ends, follow, fixedValue, textUnits, textValue, bytesValue, Children, levelValue, levelEnd, fixedLen, value, known, ChildrenAt, recordAt, records}
 use Rattle.format.specs.declared.Entry.{Entry}
 use Rattle.cursor.proofs.Reading.{was-cut, was-got}
 use Rattle.cursor.specs.Words.{Within, to, wordAt}
 use Rattle.cursor.specs.declared.Cursor.{Cursor}
 use Rattle.cursor.specs.declared.Word.the-variants.{Got, Cut}
-use Rattle.tree.specs.Steps.{HeadRead, LeafRead, LevelRead, Skipped}
-use Rattle.tree.specs.declared.Head.the-variants.{Named, Bad, End}
-use Rattle.tree.specs.declared.Leaf.{Leaf}
-use Rattle.tree.specs.declared.Leaf.the-variants.{Value, Wrong}
-use Rattle.tree.specs.declared.Level.the-variants.{Inner, Unfit}
-use Rattle.tree.specs.declared.Step.the-variants.{Next, Fault}
+use Rattle.cursor.specs.Steps.{HeadRead, LeafRead, LevelRead, Skipped}
+use Rattle.cursor.specs.declared.record.Head.the-variants.{Named, Bad, End}
+use Rattle.cursor.specs.declared.record.Leaf.{Leaf}
+use Rattle.cursor.specs.declared.record.Leaf.the-variants.{Value, Wrong}
+use Rattle.cursor.specs.declared.record.Level.the-variants.{Inner, Unfit}
+use Rattle.cursor.specs.declared.record.Skip.the-variants.{Past, Short}
 
 -- ---- a record's head
 
@@ -246,11 +246,11 @@ module _ (d : List ℕ) (c : Cursor) (w : Within c d) {start : ℕ} (before : st
 
 -- ---- a level's end
 
-module _ (c : Cursor) (k u : ℕ) where
-  pub skip-cut : (c .end - c .at) / 8 < k → Skipped c k u (Fault 6)
+module _ (c : Cursor) (k : ℕ) where
+  pub skip-cut : (c .end - c .at) / 8 < k → Skipped c k Short
   unfolding levelEnd
   skip-cut h = record { says = rw (lt-leb (c .at + 8 * k) (c .end) (omega arith)); good = tt }
 
-  pub skip-done : c .at ≤ c .end → k ≤ (c .end - c .at) / 8 → Skipped c k u (Next (to (c .at + 8 * k) (c .end)) u)
+  pub skip-done : c .at ≤ c .end → k ≤ (c .end - c .at) / 8 → Skipped c k (Past (to (c .at + 8 * k) (c .end)))
   unfolding levelEnd
-  skip-done o h = record { says = rw (le-leb (c .at + 8 * k) (c .end) (omega arith)); good = (omega arith, refl, refl) }
+  skip-done o h = record { says = rw (le-leb (c .at + 8 * k) (c .end) (omega arith)); good = (omega arith, refl) }
