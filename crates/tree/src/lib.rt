@@ -11,8 +11,9 @@ ghost use Rattle.cursor.specs.Words.{Within};
 ghost use Rattle.cursor.specs.Steps.{HeadRead, Headed};
 ghost use Rattle.tree.specs.Table.{Fit, Filled};
 ghost use Rattle.tree.specs.Steps.{LevelEnded, entryFor, recordsAt, valueAt, Ran, treeInto, parsedOf};
+use chunk_cursor::Start;
+use chunk_cursor::record_start;
 use cursor::Cursor;
-use cursor::Word;
 use cursor::clear;
 use cursor::put8;
 use cursor::record::Head;
@@ -54,12 +55,11 @@ fn read_head(d: &[u8], c: Cursor) -> Head
     requires { ⌜ Within c (now d) ⌝ }
     ensures { λ r. ⌜ HeadRead (now (d .entry)) c r ⌝ }
 {
-    match c.read_u8(d) {
-        Word::Cut => Head::End,
-        Word::Got(kind, k) => match k.read_u8(d) {
-            Word::Cut => Head::End,
-            Word::Got(units, name) => name.judge_head(kind, units, c.at),
-        },
+    let at = c.at;
+    let end = c.end;
+    match record_start(&d[..end], at) {
+        Start::End => Head::End,
+        Start::Begun(kind, units, name) => name.judge_head(kind, units, at),
     }
 }
 
