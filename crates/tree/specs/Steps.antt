@@ -1,5 +1,5 @@
 -- What each answer of the crate's functions says of the format's readings, case by case.
-use Prim.Native.Nat.{ℕ, _+_, _-_, _≤_}
+use Prim.Native.Nat.{ℕ, _+_, _-_, _*_, _≤_}
 use mathlib.Core.Path.{_≡_}
 use mathlib.Core.List.{List}
 use lib.ListN.{length}
@@ -9,7 +9,7 @@ use Rattle.format.specs.declared.Entry.{Entry}
 use Rattle.cursor.specs.Steps.{valueOf}
 use Rattle.cursor.specs.declared.Cursor.{Cursor}
 use Rattle.cursor.specs.declared.record.Name.{Name}
-use Rattle.tree.specs.Table.{AllFit, putAll}
+use Rattle.tree.specs.Table.{entriesIn, AllFit, putAll}
 use Rattle.tree.specs.declared.Spot.{Spot}
 use Rattle.tree.specs.declared.Step.{Step}
 use Rattle.tree.specs.declared.Step.the-variants.{Next, Fault}
@@ -68,6 +68,12 @@ Ran t t′ e u o (Fault x) = Stops (roomIn (length t) - u) o x
 abbrev pub treeInto : List ℕ → ℕ → ℕ → Answer (List Entry)
 treeInto d base n = treeEntries (within (roomIn n) (read d base))
 
-abbrev pub parsedOf : Answer (List Entry) → Parsed
-parsedOf (given es) = Entries (length es)
-parsedOf (refused x) = Refused x
+-- what an answer is, by the table t that was lent: its first entries, or the refusal's number
+abbrev pub parsedIn : List ℕ → Parsed → Answer (List Entry)
+parsedIn t (Entries n) = given (entriesIn t n)
+parsedIn t (Refused x) = refused x
+
+-- the entries that are counted stand in a table of n bytes
+abbrev pub Fits : ℕ → Parsed → Type 0
+Fits n (Entries w) = 48 * w ≤ n
+Fits n (Refused x) = Unit

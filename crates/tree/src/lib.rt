@@ -1,16 +1,16 @@
 // A chunk's tree, read into the lent table of entries: records and values, by two functions that call each other.
 ghost use mathlib.Core.Path.{_≡_};
 ghost use Prim.Native.Nat.{_+_, _*_, _^_, _≤_, _<_};
-ghost use mathlib.Core.List.{List};
 ghost use lib.ListN.{length};
 ghost use lib.Seq.{sets};
-ghost use Rattle.format.specs.Answer.{given};
+ghost use Rattle.format.specs.Bytes.{zeros};
 ghost use Rattle.format.specs.Trees.{entryBytes, roomIn};
-ghost use Rattle.format.specs.declared.Entry.{Entry};
+ghost use Rattle.format.specs.Calls.Tree.{treeBy};
 ghost use Rattle.cursor.specs.Words.{Within};
 ghost use Rattle.cursor.specs.Steps.{HeadRead, Headed};
-ghost use Rattle.tree.specs.Table.{Fit, Filled};
-ghost use Rattle.tree.specs.Steps.{LevelEnded, entryFor, recordsAt, valueAt, Ran, treeInto, parsedOf};
+ghost use Rattle.tree.specs.Table.{Fit};
+ghost use Rattle.tree.specs.declared.Parsed.the-variants.{Refused};
+ghost use Rattle.tree.specs.Steps.{LevelEnded, entryFor, recordsAt, valueAt, Ran, treeInto, parsedIn, Fits};
 use chunk_cursor::Start;
 use chunk_cursor::record_start;
 use cursor::Cursor;
@@ -187,12 +187,20 @@ fn parse_clx_value(d: &[u8], base: u64, table: &mut [u8], n: Name, c: Cursor, p:
     }
 }
 
-// The tree in `data`, a part of a file that begins at `base`. Its entries go into the table, which is cleared first. What a refused tree leaves
-// there is not said.
+// A refusal, and a table of zeros.
+pub fn refuse(table: &mut [u8], n: u32) -> Parsed
+    ensures { λ r. ⌜ (r ≡ Refused n) × (now (table .exit) ≡ zeros (length (now (table .entry)))) ⌝ }
+{
+    clear(table);
+    Parsed::Refused(n)
+}
+
+// The tree in `data`, a part of a file that begins at `base`. Its entries go into the table, with zeros behind them; a refused tree leaves zeros alone.
 pub fn parse_clx_variant(data: &[u8], base: u64, table: &mut [u8]) -> Parsed
     requires { ⌜ base + length (now «data») < 2 ^ 64 ⌝ }
-    ensures answer { λ r. ⌜ r ≡ parsedOf (treeInto (now («data» .entry)) base (length (now (table .entry)))) ⌝ }
-    ensures entries { λ _. ⌜ ((es : List Entry) → treeInto (now («data» .entry)) base (length (now (table .entry))) ≡ given es → Filled (now (table .exit)) (length (now (table .entry))) es) ⌝ }
+    ensures answer { λ r. ⌜ parsedIn (now (table .exit)) r ≡ treeInto (now («data» .entry)) base (length (now (table .entry))) ⌝ }
+    ensures table { λ _. ⌜ now (table .exit) ≡ treeBy (length (now (table .entry))) (treeInto (now («data» .entry)) base (length (now (table .entry)))) .buffer ⌝ }
+    ensures fits { λ r. ⌜ Fits (length (now (table .entry))) r ⌝ }
 {
     clear(table);
     let end = data.len();
@@ -203,6 +211,6 @@ pub fn parse_clx_variant(data: &[u8], base: u64, table: &mut [u8]) -> Parsed
     };
     match parse_clx_records(data, base, table, Cursor { at: 0, end }, 1, spot) {
         Step::Next(_, used) => Parsed::Entries(used),
-        Step::Fault(f) => Parsed::Refused(f),
+        Step::Fault(f) => refuse(table, f),
     }
 }
