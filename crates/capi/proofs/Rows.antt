@@ -11,11 +11,13 @@ use Rattle.format.proofs.Buffers.{over-stored}
 use Rattle.format.proofs.Bytes.{leBytes-length}
 use Rattle.format.proofs.ChannelCalls.{channels-refused}
 use Rattle.format.proofs.ChannelRecords.{channels-records}
+use Rattle.format.specs.Answer.{Answer}
 use Rattle.format.specs.Bytes.{leBytes, over, zeros}
 use Rattle.format.specs.Trees.{roomIn}
 use Rattle.format.specs.Channels.{emptyChannel, fitted}
 use Rattle.format.specs.Calls.Channels.{recordsOf, channelsCall}
 use Rattle.format.specs.Demands.{Refuses}
+use Rattle.format.specs.declared.Entry.{Entry}
 use Rattle.format.specs.declared.Channel.{Channel}
 use Rattle.format.specs.declared.Summary.{Summary}
 use Rattle.channels.specs.Ahead.{ahead}
@@ -59,12 +61,12 @@ all-stored cs b₀ b k e h = rw (take-all k cs h) at e
 -- ---- the call
 
 -- The row that was cleared has the records of the prepared call.
-pub row-call : (file table t : List ℕ) (u : Summary) (n count : ℕ) (p : Prepared) (row b : List ℕ) → count ≡ n / 56
-    → Ready file t count (u .components) (recordsOf file u (roomIn (length table)) count) p → b ≡ zeros n
+pub row-call : (file table t : List ℕ) (u : Summary) (n count : ℕ) {m : ℕ} {tree : Answer (List Entry)} (p : Prepared) (row b : List ℕ) → count ≡ n / 56
+    → Ready file t count (u .components) (recordsOf file u (roomIn (length table)) count) m tree p → b ≡ zeros n
     → row ≡ over (channelRowBytes (fitted count (ahead file t (p .planes)))) b
     → (p .number ≡ channelRow file u table n .number) × (row ≡ channelRow file u table n .buffer)
 unfolding channelRow channelsCall
-row-call file table t u n count p row b q r z e =
+row-call file table t u n count {m} {tree} p row b q r z e =
     let l = length-replicate (n / 56) emptyChannel in
     (rw (l, ← q) (r .number), rw (l, ← q, r .row) (e ∙ ap (over (channelRowBytes (fitted count (ahead file t (p .planes))))) z))
 

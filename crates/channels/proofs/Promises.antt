@@ -13,6 +13,7 @@ use Rattle.format.specs.Demands.{Refuses, None}
 use Rattle.format.specs.Refused.Order.{First}
 use Rattle.format.specs.Refused.Channels.{ChannelsRefusal, channelsOrder, RecordAt, Recorded, Emptied}
 use Rattle.format.specs.Grammar.Channels.{Empty}
+use Rattle.format.specs.declared.Entry.{Entry}
 use Rattle.format.specs.declared.Channel.{Channel}
 use Rattle.format.specs.declared.Summary.{Summary}
 use Rattle.format.proofs.ChannelCalls.{channels-number, channels-accepted, channels-refused}
@@ -68,9 +69,9 @@ module _ (s : List ℕ) (u : Summary) (bytes : List ℕ) (n : ℕ) where
       × (((cs : List Channel) → length cs ≡ n → c ≡ getD (channelsCall s u bytes cs .row) i emptyChannel)
       × ((out ≡ zeros (length bytes)) × (First R channelsOrder k × (((k ≡ 0) ↔ None R) × ((Refuses k → Empty c) × (k ≡ 0 → RecordAt s u i c))))))
 
-  pub one-record : {t : List ℕ} {p : Prepared} (i : ℕ) {k : ℕ} {c : Channel} {out : List ℕ} → Ready s t n (u .components) answer p → k ≡ p .number
+  pub one-record : {t : List ℕ} {m : ℕ} {b : Answer (List Entry)} {p : Prepared} (i : ℕ) {k : ℕ} {c : Channel} {out : List ℕ} → Ready s t n (u .components) answer m b p → k ≡ p .number
       → c ≡ getD (fitted n (ahead s t (p .planes))) i emptyChannel → out ≡ zeros (length bytes) → Promised i k c out
-  one-record {t} {p} i {k} {c} r y e z = (
+  one-record {t} {m} {b} {p} i {k} {c} r y e z = (
     λ cs h. x ∙ number-of cs h,
     (
       λ cs h. q ∙ ap (λ (l : List Channel). getD l i emptyChannel) (row-of cs h),
@@ -102,7 +103,8 @@ module _ (s : List ℕ) (u : Summary) (bytes : List ℕ) (row : List Channel) wh
       (k ≡ channelsCall s u bytes row .number) × (ts ≡ channelsCall s u bytes row .table) × (zs ≡ channelsCall s u bytes row .row) × (ts ≡ zeros (length bytes))
       × First Whole channelsOrder k × ((k ≡ 0) ↔ None Whole) × (Refuses k → Emptied (length row) zs) × (k ≡ 0 → Recorded s u (length row) zs)
 
-  pub whole-row : {t : List ℕ} {p : Prepared} {ts : List ℕ} {zs : List Channel} → Ready s t (length row) (u .components) (recordsOf s u (roomIn (length bytes)) (length row)) p
+  pub whole-row : {t : List ℕ} {m : ℕ} {b : Answer (List Entry)} {p : Prepared} {ts : List ℕ} {zs : List Channel}
+      → Ready s t (length row) (u .components) (recordsOf s u (roomIn (length bytes)) (length row)) m b p
       → ts ≡ zeros (length bytes) → zs ≡ fitted (length row) (ahead s t (p .planes)) → Filled (p .number) ts zs
   unfolding channelsCall
   whole-row r z e = (

@@ -1,6 +1,6 @@
 -- The refusals of the channels, test by test, and the walk that is ready. Assumes nothing.
 use Prim.Native.Nat.{ℕ, _<_, _≤_}
-use mathlib.Core.Path.{_≡_, refl, sym, _∙_}
+use mathlib.Core.Path.{_≡_, refl, sym, ap, _∙_}
 use mathlib.Core.Bool.{true, false}
 use mathlib.Core.Option.{Option}
 use mathlib.Core.List.{List, []}
@@ -8,13 +8,14 @@ use lib.Dec.{ltb}
 use lib.ListN.{take}
 use borrow.Author.Tests.{eq-eqb, ne-eqb, lt-ltb, le-ltb}
 use Rattle.format.specs.Answer.{Answer, given, refused, refuseIf, andThen, numberOf}
-use Rattle.format.specs.Bytes.{ascii}
+use Rattle.format.specs.Bytes.{ascii, zeros}
 use Rattle.format.specs.Refusals as why
 use Rattle.format.specs.Map.{MapEntry, mapEntries, offsetOf}
 use Rattle.format.specs.Trees.{namedTree}
 use Rattle.format.specs.Channels.{planeRecords, fitted}
 use Rattle.format.specs.Summary.{badSummary, mapOf}
 use Rattle.format.specs.Calls.Channels.{recordsBy, recordsOf, rowBy}
+use Rattle.format.specs.Calls.Tree.{treeBy}
 use Rattle.format.specs.declared.Entry.{Entry}
 use Rattle.format.specs.declared.Channel.{Channel}
 use Rattle.format.specs.declared.Summary.{Summary}
@@ -22,7 +23,7 @@ use Rattle.chunk.specs.Answers.{findIn}
 use Rattle.named_tree.specs.Named.{treeUnder}
 use Rattle.named_tree.proofs.Answers.{under-listed}
 use Rattle.channels.specs.Ahead.{ahead, noPlanes}
-use Rattle.channels.specs.Ready.{Ready}
+use Rattle.channels.specs.Ready.{planesTree, Ready}
 use Rattle.channels.specs.declared.Prepared.{Prepared}
 use Rattle.channels.proofs.Rows.{fitted-cut, fitted-same, none-at, none-stands, none-left, Before}
 
@@ -32,20 +33,33 @@ planesName = ascii "ImageMetadataSeqLV|0!"
 
 -- ---- what is ready
 
-module _ (s t : List ℕ) (n most : ℕ) {a : Answer (List Channel)} {p : Prepared} where
-  pub ready-given : (cs : List Channel) → a ≡ given cs → p .number ≡ 0 → Before s t (p .planes) (take most cs) → Ready s t n most a p
+module _ (s t : List ℕ) (n most : ℕ) {a : Answer (List Channel)} {m : ℕ} {b : Answer (List Entry)} {p : Prepared} (held : t ≡ treeBy m b .buffer) where
+  pub ready-given : (cs : List Channel) → a ≡ given cs → p .number ≡ 0 → Before s t (p .planes) (take most cs) → Ready s t n most a m b p
   unfolding rowBy numberOf
   ready-given cs e z (g, f) =
       rw e
-      (record { number = z; stands = g; row = fitted-same n (fitted most cs) (ahead s t (p .planes)) λ k. fitted-cut most cs k ∙ sym (f k) })
+      (record { number = z; stands = g; row = fitted-same n (fitted most cs) (ahead s t (p .planes)) λ k. fitted-cut most cs k ∙ sym (f k); table = held })
 
   module _ (q : p .planes ≡ noPlanes) where
-    pub ready-refused : (x : ℕ) → a ≡ refused x → p .number ≡ x → Ready s t n most a p
+    pub ready-refused : (x : ℕ) → a ≡ refused x → p .number ≡ x → Ready s t n most a m b p
     unfolding rowBy numberOf
-    ready-refused x e z = rw e (record { number = z; stands = rw q (none-stands s t); row = rw q (fitted-same n [] (ahead s t noPlanes) λ k. sym (none-at s t k)) })
+    ready-refused x e z =
+        rw e
+        (record { number = z; stands = rw q (none-stands s t); row = rw q (fitted-same n [] (ahead s t noPlanes) λ k. sym (none-at s t k)); table = held })
 
-    pub ready-empty : a ≡ given [] → p .number ≡ 0 → Ready s t n most a p
+    pub ready-empty : a ≡ given [] → p .number ≡ 0 → Ready s t n most a m b p
     ready-empty e z = ready-given [] e z (none-left s t most q refl)
+
+-- the same of records and of a tree that are equal
+pub ready-same : {s t : List ℕ} {n most m : ℕ} {a c : Answer (List Channel)} {b d : Answer (List Entry)} {p : Prepared} → (a ≡ c) × (b ≡ d) → Ready s t n most c m d p
+    → Ready s t n most a m b p
+ready-same (e, f) r = rw (e, f) r
+
+-- refused before a tree is read: no records, and a table of zeros
+pub turned-away : {s t : List ℕ} {n most : ℕ} {a : Answer (List Channel)} {m : ℕ} {b : Answer (List Entry)} {p : Prepared} (x : ℕ) → (a ≡ refused x) × (b ≡ refused x)
+    → (p .number ≡ x) × (p .planes ≡ noPlanes) × (t ≡ zeros m) → Ready s t n most a m b p
+unfolding treeBy
+turned-away {s} {t} {n} {most} x (e, f) (z, q, g) = ready-refused s t n most (rw f g) q x e z
 
 -- ---- the refusals in order
 
@@ -63,39 +77,76 @@ module _ (s : List ℕ) {a : Answer (List Entry)} where
   unfolding recordsBy
   by-fault k e h = rw (e, ne-eqb k why.table h) refl
 
-module _ (s : List ℕ) (u : Summary) (room n : ℕ) where
-  pub bad-summary : badSummary s u ≡ true → recordsOf s u room n ≡ refused why.summary
-  unfolding recordsOf refuseIf
-  bad-summary e = rw e refl
+-- 20, 5 and 19, before what k gives from the map's entries
+module _ (s : List ℕ) (u : Summary) (n : ℕ) {A : Type 0} (k : List MapEntry → Answer A) where
+  abbrev judged : Answer A
+  judged = refuseIf (badSummary s u) why.summary (andThen (mapEntries (mapOf s u)) λ es. refuseIf (ltb n (u .components)) why.channelRow (k es))
+
+  by-summary : badSummary s u ≡ true → judged ≡ refused why.summary
+  unfolding refuseIf
+  by-summary e = rw e refl
 
   abbrev placed : Answer (List MapEntry) → Answer (Option ℕ)
   placed x = andThen x λ es. given (offsetOf (mapOf s u) planesName es)
 
-  module _ (g : badSummary s u ≡ false) {l : Answer (Option ℕ)} (q : l ≡ findIn (mapOf s u) planesName) where
+  module _ (h : Answer (Option ℕ) → Answer A) (same : (es : List MapEntry) → h (given (offsetOf (mapOf s u) planesName es)) ≡ k es)
+      (g : badSummary s u ≡ false) {l : Answer (Option ℕ)} (q : l ≡ findIn (mapOf s u) planesName) where
     -- what the map has under the name decides
-    by-lookup : recordsOf s u room n ≡ andThen l λ _. refuseIf (ltb n (u .components)) why.channelRow (recordsBy s (treeUnder s room l))
-    unfolding recordsOf refuseIf findIn andThen
+    by-lookup : judged ≡ andThen l λ _. refuseIf (ltb n (u .components)) why.channelRow (h l)
+    unfolding refuseIf findIn andThen
     by-lookup = rw (g, q) (go (mapEntries (mapOf s u)))
       where
         go : (x : Answer (List MapEntry))
-            → andThen x (λ es. refuseIf (ltb n (u .components)) why.channelRow (recordsBy s (namedTree s (mapOf s u) es room planesName)))
-            ≡ andThen (placed x) λ _. refuseIf (ltb n (u .components)) why.channelRow (recordsBy s (treeUnder s room (placed x)))
+            → andThen x (λ es. refuseIf (ltb n (u .components)) why.channelRow (k es))
+            ≡ andThen (placed x) λ _. refuseIf (ltb n (u .components)) why.channelRow (h (placed x))
         go (refused x) = refl
-        go (given es) = rw (under-listed s room (mapOf s u) planesName es) refl
+        go (given es) = rw (same es) refl
 
-    pub no-map : l ≡ refused why.map → recordsOf s u room n ≡ refused why.map
+    by-map : l ≡ refused why.map → judged ≡ refused why.map
     unfolding andThen
-    no-map e = by-lookup ∙ rw e refl
+    by-map e = by-lookup ∙ rw e refl
 
     module _ (found : (o : Option ℕ) × (l ≡ given o)) where
-      pub short-row : n < u .components → recordsOf s u room n ≡ refused why.channelRow
+      by-row : n < u .components → judged ≡ refused why.channelRow
       unfolding andThen refuseIf
-      short-row h = by-lookup ∙ rw (found .1, lt-ltb n (u .components) h) refl
+      by-row f = by-lookup ∙ rw (found .1, lt-ltb n (u .components) f) refl
 
-      pub read-on : u .components ≤ n → recordsOf s u room n ≡ recordsBy s (treeUnder s room l)
+      goes-on : u .components ≤ n → judged ≡ h l
       unfolding andThen refuseIf
-      read-on h = by-lookup ∙ go l (found .1)
+      goes-on f = by-lookup ∙ go l (found .1)
         where
-          go : (x : Answer (Option ℕ)) → x ≡ given (found .0)
-              → andThen x (λ _. refuseIf (ltb n (u .components)) why.channelRow (recordsBy s (treeUnder s room x))) ≡ recordsBy s (treeUnder s room x)
-          go x e = rw (e, le-ltb n (u .components) h) refl
+          go : (x : Answer (Option ℕ)) → x ≡ given (found .0) → andThen x (λ _. refuseIf (ltb n (u .components)) why.channelRow (h x)) ≡ h x
+          go x e = rw (e, le-ltb n (u .components) f) refl
+
+-- the same of the records, and of the tree that they are in
+module _ (s : List ℕ) (u : Summary) (room n : ℕ) where
+  abbrev treeOf : List MapEntry → Answer (List Entry)
+  treeOf es = namedTree s (mapOf s u) es room planesName
+
+  abbrev listed : (es : List MapEntry) → treeUnder s room (given (offsetOf (mapOf s u) planesName es)) ≡ treeOf es
+  listed es = under-listed s room (mapOf s u) planesName es
+
+  -- both are refused with the number x
+  abbrev Both : ℕ → Type 0
+  Both x = (recordsOf s u room n ≡ refused x) × (planesTree s u room n ≡ refused x)
+
+  pub bad-summary : badSummary s u ≡ true → Both why.summary
+  unfolding recordsOf planesTree
+  bad-summary e = (by-summary s u n (λ es. recordsBy s (treeOf es)) e, by-summary s u n treeOf e)
+
+  module _ (g : badSummary s u ≡ false) {l : Answer (Option ℕ)} (q : l ≡ findIn (mapOf s u) planesName) where
+    pub no-map : l ≡ refused why.map → Both why.map
+    unfolding recordsOf planesTree
+    no-map e =
+        (by-map s u n (λ es. recordsBy s (treeOf es)) (λ x. recordsBy s (treeUnder s room x)) (λ es. ap (recordsBy s) (listed es)) g q e, by-map s u n treeOf (treeUnder s room) listed g q e)
+
+    module _ (found : (o : Option ℕ) × (l ≡ given o)) where
+      pub short-row : n < u .components → Both why.channelRow
+      unfolding recordsOf planesTree
+      short-row f =
+          (by-row s u n (λ es. recordsBy s (treeOf es)) (λ x. recordsBy s (treeUnder s room x)) (λ es. ap (recordsBy s) (listed es)) g q found f, by-row s u n treeOf (treeUnder s room) listed g q found f)
+
+      pub read-on : u .components ≤ n → (recordsOf s u room n ≡ recordsBy s (treeUnder s room l)) × (planesTree s u room n ≡ treeUnder s room l)
+      unfolding recordsOf planesTree
+      read-on f =
+          (goes-on s u n (λ es. recordsBy s (treeOf es)) (λ x. recordsBy s (treeUnder s room x)) (λ es. ap (recordsBy s) (listed es)) g q found f, goes-on s u n treeOf (treeUnder s room) listed g q found f)

@@ -1,3 +1,4 @@
 pub mod Widths
 pub mod Thin
 pub mod InARow
+pub mod Openings

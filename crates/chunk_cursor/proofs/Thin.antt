@@ -41,7 +41,7 @@ use denote.Triple.Spec.{Meets, tripleOf}
 use denote.Triple.Walked.{says, Stays, stay-none, walkOf, goes-none, Walks, ends-at, walked, walk-meets}
 use denote.Exit.{yes}
 use denote.Triple.Clauses.{Ended, Clauses, closing, ensured, lasts}
-use Rattle.cursor.specs.Words.{wordAt, GoodWord}
+use Rattle.cursor.specs.Words.{wordOf, wordAt, GoodWord}
 use Rattle.cursor.specs.declared.Word.{Word}
 use Rattle.cursor.proofs.Word as S
 use Rattle.cursor.proofs.Word.Laws as S′
@@ -118,7 +118,7 @@ abbrev pub promises : {M : Type 1} (𝓤 : URA M) → Width → Clauses 𝓤 rea
 promises 𝓤 w κs a = record {
   ghost = Unit {0};
   requires = λ _. emp 𝓤;
-  ensures = λ _ r _. fact 𝓤 ((r ≡ wordAt (bytesOf w) (now (a .0 .slice)) (partOf (a .0))) × GoodWord (now (a .0 .slice)) (partOf (a .0)) (bytesOf w) r);
+  ensures = λ _ r _. fact 𝓤 ((wordOf r ≡ wordAt (bytesOf w) (now (a .0 .slice)) (partOf (a .0))) × GoodWord (now (a .0 .slice)) (partOf (a .0)) (bytesOf w) r);
 }
 
 module _ {M : Type 1} (𝓤 : URA M) (H : Heap 𝓤) (A : Atoms 𝓤) (mem : Memory → SProp 𝓤) (run : Routine → Fun 𝓤) where
@@ -136,7 +136,7 @@ module _ (w : Width) {M : Type 1} (𝓤 : URA M) (H : Heap 𝓤) (A : Atoms 𝓤
 
   -- what is promised of the number
   abbrev Right : Word → Type 0
-  Right r = (r ≡ wordAt (bytesOf w) (now (d .slice)) (partOf d)) × GoodWord (now (d .slice)) (partOf d) (bytesOf w) r
+  Right r = (wordOf r ≡ wordAt (bytesOf w) (now (d .slice)) (partOf d)) × GoodWord (now (d .slice)) (partOf d) (bytesOf w) r
 
   abbrev Post : Val → SProp 𝓤
   Post = walkOf 𝓤 H A reading stayed (promises 𝓤 w) .post (((κ, tt), (q, tt), tt, (d, tt), (mach ∷ [], tt)), tt)

@@ -2,10 +2,9 @@
 use cursor::Cursor;
 use cursor::Word;
 ghost use mathlib.Core.Path.{_≡_};
-ghost use Prim.Native.Nat.{_+_};
 ghost use lib.ListN.{length};
-ghost use Rattle.cursor.specs.Words.{to, wordAt, GoodWord};
-ghost use Rattle.chunk_cursor.specs.Places.{bytesOf, partOf, placeAfter};
+ghost use Rattle.cursor.specs.Words.{to, wordOf, wordAt, GoodWord};
+ghost use Rattle.chunk_cursor.specs.Places.{bytesOf, partOf, placeAfter, startOf, startBy, startAt};
 
 // How many bytes a number has.
 pub enum Width {
@@ -17,7 +16,7 @@ pub enum Width {
 
 // The number at a place of a slice and the cursor after it, or too few bytes for one.
 pub fn word_in(slice: &[u8], at: usize, width: Width) -> Word
-    ensures { λ r. ⌜ (r ≡ wordAt (bytesOf width) (now (slice .entry)) (to at (length (now (slice .entry))))) × GoodWord (now (slice .entry)) (to at (length (now (slice .entry)))) (bytesOf width) r ⌝ }
+    ensures { λ r. ⌜ (wordOf r ≡ wordAt (bytesOf width) (now (slice .entry)) (to at (length (now (slice .entry))))) × GoodWord (now (slice .entry)) (to at (length (now (slice .entry)))) (bytesOf width) r ⌝ }
 {
     let end = slice.len();
     if end < at {
@@ -58,28 +57,28 @@ impl<'a> ChunkCursor<'a> {
 
     // The number in one byte at the cursor, or too few bytes for one.
     pub fn read_u8(self) -> Word
-        ensures { λ r. ⌜ (r ≡ wordAt 1 (now (self .entry .slice)) (partOf (self .entry))) × GoodWord (now (self .entry .slice)) (partOf (self .entry)) 1 r ⌝ }
+        ensures { λ r. ⌜ (wordOf r ≡ wordAt 1 (now (self .entry .slice)) (partOf (self .entry))) × GoodWord (now (self .entry .slice)) (partOf (self .entry)) 1 r ⌝ }
     {
         word_in(self.slice, self.at, Width::One)
     }
 
     // The number in two bytes.
     pub fn read_u16(self) -> Word
-        ensures { λ r. ⌜ (r ≡ wordAt 2 (now (self .entry .slice)) (partOf (self .entry))) × GoodWord (now (self .entry .slice)) (partOf (self .entry)) 2 r ⌝ }
+        ensures { λ r. ⌜ (wordOf r ≡ wordAt 2 (now (self .entry .slice)) (partOf (self .entry))) × GoodWord (now (self .entry .slice)) (partOf (self .entry)) 2 r ⌝ }
     {
         word_in(self.slice, self.at, Width::Two)
     }
 
     // The number in four bytes.
     pub fn read_u32(self) -> Word
-        ensures { λ r. ⌜ (r ≡ wordAt 4 (now (self .entry .slice)) (partOf (self .entry))) × GoodWord (now (self .entry .slice)) (partOf (self .entry)) 4 r ⌝ }
+        ensures { λ r. ⌜ (wordOf r ≡ wordAt 4 (now (self .entry .slice)) (partOf (self .entry))) × GoodWord (now (self .entry .slice)) (partOf (self .entry)) 4 r ⌝ }
     {
         word_in(self.slice, self.at, Width::Four)
     }
 
     // The number in eight bytes.
     pub fn read_u64(self) -> Word
-        ensures { λ r. ⌜ (r ≡ wordAt 8 (now (self .entry .slice)) (partOf (self .entry))) × GoodWord (now (self .entry .slice)) (partOf (self .entry)) 8 r ⌝ }
+        ensures { λ r. ⌜ (wordOf r ≡ wordAt 8 (now (self .entry .slice)) (partOf (self .entry))) × GoodWord (now (self .entry .slice)) (partOf (self .entry)) 8 r ⌝ }
     {
         word_in(self.slice, self.at, Width::Eight)
     }
@@ -96,11 +95,31 @@ impl<'a> ChunkCursor<'a> {
     }
 }
 
-// How many units the name of the record at a place of a tree's slice has: the byte after its type.
-pub fn name_units(slice: &[u8], at: usize) -> Word
-    ensures { λ r. ⌜ r ≡ wordAt 1 (now (slice .entry)) (to (at + 1) (length (now (slice .entry)))) ⌝ }
+// The first two bytes of a record, its type and how many units its name has, and the cursor at the name; or too few bytes for a record.
+pub enum Start {
+    Begun(u64, u64, Cursor),
+    End,
+}
+
+// What the reads of the two bytes make together.
+fn both(kind: Word, units: Word) -> Start
+    ensures { λ r. ⌜ startOf r ≡ startBy kind units ⌝ }
+{
+    match kind {
+        Word::Cut => Start::End,
+        Word::Got(k, _) => match units {
+            Word::Cut => Start::End,
+            Word::Got(n, name) => Start::Begun(k, n, name),
+        },
+    }
+}
+
+// How the record at a place of a tree's slice starts.
+pub fn record_start(slice: &[u8], at: usize) -> Start
+    ensures { λ r. ⌜ startOf r ≡ startAt (now (slice .entry)) at ⌝ }
 {
     let c = ChunkCursor::new(slice, at);
     let kind = c.read_u8();
-    c.after(kind).read_u8()
+    let units = c.after(kind).read_u8();
+    both(kind, units)
 }

@@ -5,7 +5,9 @@ use mathlib.Core.Bool.{cond}
 use mathlib.Core.List.{List}
 use lib.ListN.{length}
 use lib.Dec.{ltb}
+use Rattle.format.specs.Answer.{Answer, given, refused}
 use Rattle.format.specs.Bytes.{leAt}
+use Rattle.format.specs.Refusals as why
 use Rattle.cursor.specs.declared.Cursor.{Cursor}
 use Rattle.cursor.specs.declared.Word.{Word}
 use Rattle.cursor.specs.declared.Word.the-variants.{Got, Cut}
@@ -19,9 +21,14 @@ pub record Within (c : Cursor) (s : List ℕ) : Type 0 where
   pub order : c .at ≤ c .end
   pub inside : c .end ≤ length s
 
--- the number in the n bytes at a cursor and the cursor after them, or Cut where fewer are left
-unfoldable pub wordAt : ℕ → List ℕ → Cursor → Word
-wordAt n s c = cond (ltb (c .end - c .at) n) Cut (Got (leAt n s (c .at)) (to (c .at + n) (c .end)))
+-- what an answer of a read is: the number and the cursor after it, or 6
+abbrev pub wordOf : Word → Answer (ℕ × Cursor)
+wordOf (Got x d) = given (x, d)
+wordOf Cut = refused why.cut
+
+-- the number in the n bytes at a cursor and the cursor after them; 6 where fewer are left
+unfoldable pub wordAt : ℕ → List ℕ → Cursor → Answer (ℕ × Cursor)
+wordAt n s c = cond (ltb (c .end - c .at) n) (refused why.cut) (given (leAt n s (c .at), to (c .at + n) (c .end)))
 
 -- the cursor that is handed back after n bytes lies in the slice again
 abbrev pub GoodWord : List ℕ → Cursor → ℕ → Word → Type 0

@@ -4,7 +4,9 @@ ghost use Prim.Native.Nat.{_+_, _^_, _≤_, _<_};
 ghost use lib.ListN.{length};
 ghost use lib.Seq.{sets};
 ghost use Rattle.format.specs.Bytes.{leAt, leBytes, zeros};
-ghost use Rattle.cursor.specs.Words.{Within, wordAt, GoodWord};
+ghost use Rattle.cursor.specs.Words.{Within, wordOf, wordAt, GoodWord};
+
+pub mod record; // a record's head, its value, a level's header
 
 // A byte as a number.
 pub fn wide(x: u8) -> u64
@@ -86,7 +88,7 @@ impl Cursor {
     // One byte, with the cursor after it; cut where fewer are left.
     pub fn read_u8(self, s: &[u8]) -> Word
         requires { ⌜ Within self (now s) ⌝ }
-        ensures { λ r. ⌜ (r ≡ wordAt 1 (now (s .entry)) self) × GoodWord (now (s .entry)) self 1 r ⌝ }
+        ensures { λ r. ⌜ (wordOf r ≡ wordAt 1 (now (s .entry)) self) × GoodWord (now (s .entry)) self 1 r ⌝ }
     {
         let at = self.at;
         let end = self.end;
@@ -99,7 +101,7 @@ impl Cursor {
     // A number of two bytes, with the cursor after it; cut where fewer are left.
     pub fn read_u16(self, s: &[u8]) -> Word
         requires { ⌜ Within self (now s) ⌝ }
-        ensures { λ r. ⌜ (r ≡ wordAt 2 (now (s .entry)) self) × GoodWord (now (s .entry)) self 2 r ⌝ }
+        ensures { λ r. ⌜ (wordOf r ≡ wordAt 2 (now (s .entry)) self) × GoodWord (now (s .entry)) self 2 r ⌝ }
     {
         let at = self.at;
         let end = self.end;
@@ -112,7 +114,7 @@ impl Cursor {
     // A number of four bytes, with the cursor after it; cut where fewer are left.
     pub fn read_u32(self, s: &[u8]) -> Word
         requires { ⌜ Within self (now s) ⌝ }
-        ensures { λ r. ⌜ (r ≡ wordAt 4 (now (s .entry)) self) × GoodWord (now (s .entry)) self 4 r ⌝ }
+        ensures { λ r. ⌜ (wordOf r ≡ wordAt 4 (now (s .entry)) self) × GoodWord (now (s .entry)) self 4 r ⌝ }
     {
         let at = self.at;
         let end = self.end;
@@ -125,7 +127,7 @@ impl Cursor {
     // A number of eight bytes, with the cursor after it; cut where fewer are left.
     pub fn read_u64(self, s: &[u8]) -> Word
         requires { ⌜ Within self (now s) ⌝ }
-        ensures { λ r. ⌜ (r ≡ wordAt 8 (now (s .entry)) self) × GoodWord (now (s .entry)) self 8 r ⌝ }
+        ensures { λ r. ⌜ (wordOf r ≡ wordAt 8 (now (s .entry)) self) × GoodWord (now (s .entry)) self 8 r ⌝ }
     {
         let at = self.at;
         let end = self.end;

@@ -6,18 +6,26 @@ use mathlib.Core.List.{List, []}
 use lib.ListN.{length}
 use Rattle.format.proofs.Reading.{whole-read}
 use Rattle.format.specs.Answer.{Answer, given, refused, andThen, orRefuse}
-use Rattle.format.specs.Bytes.{part, over, zeros}
+use Rattle.format.specs.Bytes.{part, zeros}
 use Rattle.format.specs.Chunks.{chunkData, dataIn}
 use Rattle.format.specs.Map.{MapEntry, mapEntries, offsetOf, namedChunk}
-use Rattle.format.specs.Trees.{read, treeIn, within, treeEntries, roomIn, tableBytes, namedTree}
+use Rattle.format.specs.Trees.{read, treeIn, within, treeEntries, roomIn, namedTree}
+use Rattle.format.specs.Calls.Tree.{treeBy}
 use Rattle.format.specs.declared.Range.{Range}
 use Rattle.format.specs.declared.Entry.{Entry}
 use Rattle.chunk.specs.Answers.{findIn}
 use Rattle.lookup.proofs.Reading.{holds-read}
-use Rattle.tree.specs.Table.{Filled}
-use Rattle.tree.specs.Steps.{treeInto, parsedOf}
+use Rattle.lookup.proofs.Rows.{length-firsts}
+use Rattle.tree.specs.Table.{entryIn, entriesIn}
+use Rattle.tree.specs.Steps.{treeInto, parsedIn}
 use Rattle.tree.specs.declared.Parsed.{Parsed}
-use Rattle.named_tree.specs.Named.{treeAt, treeUnder, Reads}
+use Rattle.tree.specs.declared.Parsed.the-variants.{Entries, Refused}
+use Rattle.named_tree.specs.Named.{treeAt, treeUnder, Readable, Reads}
+
+-- a refusal leaves a table of zeros
+pub refused-reads : {s t : List ℕ} {n x : ℕ} {a : Answer (List Entry)} {r : Parsed} → a ≡ refused x → r ≡ Refused x → t ≡ zeros n → Reads s t n a r
+unfolding treeBy
+refused-reads e f g = rw f (record { answer = e; table = rw e g; holds = tt })
 
 -- ---- the chunk at an offset
 
@@ -32,18 +40,20 @@ module _ (s : List ℕ) (o n : ℕ) where
 
   -- what the tree's answer says, and what its table has
   pub chunk-reads : {r : Range} {d t : List ℕ} {p : Parsed} → length s < 2 ^ 64 → r .start + r .len ≤ length s → given r ≡ chunkData [] s o → d ≡ part s (r .start) (r .len)
-      → p ≡ parsedOf (treeInto d (r .start) n) → ((es : List Entry) → treeInto d (r .start) n ≡ given es → Filled t n es) → Reads s t n (treeAt s (roomIn n) o) p
-  chunk-reads {r} {d} {t} {p} small within e q a h =
+      → parsedIn t p ≡ treeInto d (r .start) n → t ≡ treeBy n (treeInto d (r .start) n) .buffer → Reads s t n (treeAt s (roomIn n) o) p
+  unfolding treeBy
+  chunk-reads {r} {d} {t} {p} small within e q a b =
       let z : treeInto d (r .start) n ≡ treeAt s (roomIn n) o = ap (λ (x : List ℕ). treeInto x (r .start) n) q ∙ sym (chunk-tree r e) in
-      go (treeAt s (roomIn n) o) (chunk-tree r e) (a ∙ ap parsedOf z) λ es y. h es (z ∙ y)
+      let b′ : t ≡ treeBy n (treeAt s (roomIn n) o) .buffer = b ∙ ap (λ (x : Answer (List Entry)). treeBy n x .buffer) z in
+      record { answer = sym z ∙ sym a; table = b′; holds = go p (a ∙ z) b′ }
     where
-      go : (x : Answer (List Entry)) → x ≡ treeInto (dataIn s r) (r .start) n → p ≡ parsedOf x → ((es : List Entry) → x ≡ given es → Filled t n es) → Reads s t n x p
-      go (refused y) f g k = rw g refl
-      go (given es) f g k =
-          let (l, at, w) = whole-read (roomIn n) (read (dataIn s r) (r .start)) es (sym f) in
-          let b : t ≡ over (tableBytes es) (zeros n) = k es refl .bytes in
-          let y = holds-read s r es at n t small within w b in
-          rw g (record { answer = rw (y .entries) refl; bytes = rw (y .entries) b; holds = y .holds })
+      go : (p : Parsed) → parsedIn t p ≡ treeAt s (roomIn n) o → t ≡ treeBy n (treeAt s (roomIn n) o) .buffer → Readable s t p
+      go (Refused x) f g = tt
+      go (Entries w) f g =
+          let es = entriesIn t w in
+          let (l, at, y) = whole-read (roomIn n) (read (dataIn s r) (r .start)) es (sym (chunk-tree r e) ∙ sym f) in
+          let k : length es ≡ w = length-firsts w (entryIn t) in
+          rw (← k) (holds-read s r es at n t small within y (rw (← f) at g) .holds)
 
 -- ---- what a lookup found
 

@@ -3,14 +3,14 @@ use Prim.Native.Nat.{ℕ}
 use mathlib.Core.Path.{_≡_}
 use mathlib.Core.Option.{Option}
 use mathlib.Core.List.{List, []}
-use Rattle.format.specs.Answer.{Answer, given, refused, andThen, orRefuse}
+use Rattle.format.specs.Answer.{Answer, andThen, orRefuse}
 use Rattle.format.specs.Refusals as why
 use Rattle.format.specs.Chunks.{chunkData}
-use Rattle.format.specs.Bytes.{over, zeros}
-use Rattle.format.specs.Table.{entriesIn}
-use Rattle.format.specs.Trees.{treeIn, within, wholeTree, treeEntries, tableBytes}
+use Rattle.format.specs.Trees.{treeIn, within, wholeTree, treeEntries}
+use Rattle.format.specs.Calls.Tree.{treeBy}
 use Rattle.format.specs.declared.Entry.{Entry}
 use Rattle.lookup.specs.Table.{Holds}
+use Rattle.tree.specs.Steps.{parsedIn}
 use Rattle.tree.specs.declared.Parsed.{Parsed}
 use Rattle.tree.specs.declared.Parsed.the-variants.{Entries, Refused}
 
@@ -24,12 +24,14 @@ unfoldable pub treeUnder : List ℕ → ℕ → Answer (Option ℕ) → Answer (
 unfolding treeAt
 treeUnder s room l = andThen l λ o. andThen (orRefuse o why.missing) (treeAt s room)
 
--- The answer is given: its entries are the first `used` of the table t, whose n bytes are zero behind them; and the lookups may read them.
-pub record Held (file t : List ℕ) (n : ℕ) (a : Answer (List Entry)) (used : ℕ) : Type 0 where
-  pub answer : a ≡ given (entriesIn t used)
-  pub bytes : t ≡ over (tableBytes (entriesIn t used)) (zeros n)
-  pub holds : Holds file t used
+-- the lookups may read the entries that are counted
+abbrev pub Readable : List ℕ → List ℕ → Parsed → Type 0
+Readable file t (Entries used) = Holds file t used
+Readable file t (Refused x) = Unit
 
-abbrev pub Reads : List ℕ → List ℕ → ℕ → Answer (List Entry) → Parsed → Type 0
-Reads file t n a (Entries used) = Held file t n a used
-Reads file t n a (Refused x) = a ≡ refused x
+-- Of the tree a of a file, read into a table of n bytes: what the answer r is, by the table t that it leaves; and that table: the entries with
+-- zeros behind them, or zeros alone.
+pub record Reads (file t : List ℕ) (n : ℕ) (a : Answer (List Entry)) (r : Parsed) : Type 0 where
+  pub answer : a ≡ parsedIn t r
+  pub table : t ≡ treeBy n a .buffer
+  pub holds : Readable file t r

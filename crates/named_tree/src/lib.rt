@@ -6,17 +6,18 @@ use chunk::map::Lookup;
 use format::refusal;
 use tree::Parsed;
 use tree::parse_clx_variant;
+use tree::refuse;
 ghost use lib.ListN.{length};
 ghost use Rattle.format.specs.Trees.{roomIn};
 ghost use Rattle.chunk.specs.Answers.{lookupOf};
 ghost use Rattle.named_tree.specs.Named.{treeAt, treeUnder, Reads};
 
-// The tree of the chunk at `offset`. What a refused tree leaves in the table is not said.
+// The tree of the chunk at `offset`, in the table, which is all zero where that is refused.
 pub fn read_at(file: &[u8], offset: u64, table: &mut [u8]) -> Parsed
     ensures { λ r. ⌜ Reads (now (file .entry)) (now (table .exit)) (length (now (table .entry))) (treeAt (now (file .entry)) (roomIn (length (now (table .entry)))) offset) r ⌝ }
 {
     match chunk_data(file, offset, b"") {
-        ChunkData::Bad => Parsed::Refused(refusal::CHUNK),
+        ChunkData::Bad => refuse(table, refusal::CHUNK),
         ChunkData::Data(r) => {
             let start = r.start;
             let len = r.len;
@@ -25,13 +26,13 @@ pub fn read_at(file: &[u8], offset: u64, table: &mut [u8]) -> Parsed
     }
 }
 
-// The tree of the chunk that a lookup found.
+// The tree of the chunk that a lookup found; a table of zeros where there is none.
 pub fn read_named(file: &[u8], at: Lookup, table: &mut [u8]) -> Parsed
     ensures { λ r. ⌜ Reads (now (file .entry)) (now (table .exit)) (length (now (table .entry))) (treeUnder (now (file .entry)) (roomIn (length (now (table .entry)))) (lookupOf at)) r ⌝ }
 {
     match at {
         Lookup::At(offset) => read_at(file, offset, table),
-        Lookup::Absent => Parsed::Refused(refusal::MISSING),
-        Lookup::Broken => Parsed::Refused(refusal::MAP),
+        Lookup::Absent => refuse(table, refusal::MISSING),
+        Lookup::Broken => refuse(table, refusal::MAP),
     }
 }

@@ -1,3 +1,3 @@
-pub mod Answers
+pub mod Heads
 pub mod Runs
 pub mod Whole

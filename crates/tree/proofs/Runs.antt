@@ -19,16 +19,17 @@ use Rattle.format.specs.Refusals as why
 use Rattle.format.specs.Trees.{Stop, at, fault, Read, ends, follow, then, childrenOr9, levelEnd, value, entryOf, records, childrenAt, roomIn, within, entryBytes, tableBytes}
 use Rattle.format.specs.declared.Entry.{Entry}
 use Rattle.cursor.specs.Words.{Within}
+use Rattle.cursor.specs.Steps.{Faults, Headed, fromHead, HeadRead, LeafRead, LevelRead}
 use Rattle.cursor.specs.declared.Cursor.{Cursor}
 use Rattle.tree.specs.Table.{Fit, AllFit, putAll}
-use Rattle.tree.proofs.Answers.{value-level}
-use Rattle.tree.specs.Steps.{Faults, Headed, fromHead, HeadRead, LeafRead, LevelRead, Skipped, entryFor, recordsAt, valueAt, Stops, Went, Ran}
-use Rattle.tree.specs.declared.Name.{Name}
+use Rattle.cursor.proofs.Answers.{value-level}
+use Rattle.tree.specs.Steps.{LevelEnded, entryFor, recordsAt, valueAt, Stops, Went, Ran}
+use Rattle.cursor.specs.declared.record.Name.{Name}
 use Rattle.tree.specs.declared.Spot.{Spot}
-use Rattle.tree.specs.declared.Head.{Head}
-use Rattle.tree.specs.declared.Head.the-variants.{Named, Bad, End}
-use Rattle.tree.specs.declared.Leaf.the-variants.{Value, Wrong}
-use Rattle.tree.specs.declared.Level.the-variants.{Inner, Unfit}
+use Rattle.cursor.specs.declared.record.Head.{Head}
+use Rattle.cursor.specs.declared.record.Head.the-variants.{Named, Bad, End}
+use Rattle.cursor.specs.declared.record.Leaf.the-variants.{Value, Wrong}
+use Rattle.cursor.specs.declared.record.Level.the-variants.{Inner, Unfit}
 use Rattle.tree.specs.declared.Step.{Step}
 use Rattle.tree.specs.declared.Step.the-variants.{Next, Fault}
 
@@ -289,7 +290,7 @@ module _ {d : List ℕ} {base : ℕ} {n : Name} {v : Cursor} {p : Spot} {t : Lis
       level-end : {z : Stop} → levelEnd k (c .end) (v .end) ≡ z → valueAt d base n v p ≡ record { entries = own ∷ kids .entries; stop = z }
       level-end {z} e = level-then ∙ rw (then-at kids (λ m q. ends (levelEnd k (c .end) (v .end))) (b .at) (W .stop), e, append-nil)
 
-      pub level-went : Fit (entryFor base (p .parent) n (c .at) (c .end - c .at)) → (r : Step) → Skipped a k w r
+      pub level-went : Fit (entryFor base (p .parent) n (c .at) (c .end - c .at)) → (r : Step) → LevelEnded a k w r
           → Ran t t₂ (v .end) (p .used) (valueAt d base n v p) r
       level-went f (Fault x) s =
           let g = level .good in

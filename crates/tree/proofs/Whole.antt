@@ -5,15 +5,16 @@ use mathlib.Core.List.{List}
 use native.Mathlib.Omega.{arith}
 use native.Mathlib.Nat.{sub-zero}
 use lib.ListN.{length, length-replicate}
-use Rattle.format.proofs.Tables.{length-table, sets-over, within-whole}
-use Rattle.format.specs.Answer.{Answer, given, refused}
+use Rattle.format.proofs.Tables.{length-table, sets-over, within-whole, entries-back}
+use Rattle.format.specs.Answer.{given, refused}
 use Rattle.format.specs.Bytes.{over, zeros}
 use Rattle.format.specs.Trees.{at, fault, Read, read, roomIn, within, wholeTree, tableBytes}
+use Rattle.format.specs.Calls.Tree.{treeBy}
 use Rattle.format.specs.declared.Entry.{Entry}
 use Rattle.cursor.specs.Words.{to}
 use Rattle.cursor.specs.declared.Cursor.{Cursor}
-use Rattle.tree.specs.Table.{putAll, Filled}
-use Rattle.tree.specs.Steps.{recordsAt, Stops, Went, treeInto, parsedOf}
+use Rattle.tree.specs.Table.{putAll}
+use Rattle.tree.specs.Steps.{recordsAt, Stops, Went, treeInto, parsedIn, Fits}
 use Rattle.tree.specs.declared.Parsed.{Parsed}
 use Rattle.tree.specs.declared.Parsed.the-variants.{Entries, Refused}
 
@@ -32,7 +33,7 @@ put-over n es h = sets-over (tableBytes es) (zeros n) (rw (length-table, length-
 
 -- what is said of a tree's answer r, where its table of n bytes has become t
 abbrev Said : List ℕ → ℕ → ℕ → List ℕ → Parsed → Type 0
-Said d base n t r = (r ≡ parsedOf (treeInto d base n)) × ((es : List Entry) → treeInto d base n ≡ given es → Filled t n es)
+Said d base n t r = (parsedIn t r ≡ treeInto d base n) × ((t ≡ treeBy n (treeInto d base n) .buffer) × Fits n r)
 
 room-cleared : (n : ℕ) {t : List ℕ} → t ≡ zeros n → roomIn (length t) ≡ roomIn n
 unfolding zeros
@@ -40,7 +41,7 @@ room-cleared n cleared = ap roomIn (ap length cleared ∙ length-replicate n 0)
 
 module _ (d : List ℕ) (base n : ℕ) {t : List ℕ} (cleared : t ≡ zeros n) {t′ : List ℕ} where
   pub tree-read : {e : ℕ} {c : Cursor} {w : ℕ} → Went t t′ e 0 (whole d base) c w → Said d base n t′ (Entries w)
-  unfolding wholeTree
+  unfolding wholeTree treeBy over
   tree-read {e} {c} {w} W′ =
       let W : Went t t′ e 0 (read d base) c w = subst (λ (o : Read). Went t t′ e 0 o c w) (whole-is d base) W′ in
       let es = read d base .entries in
@@ -49,19 +50,12 @@ module _ (d : List ℕ) (base n : ℕ) {t : List ℕ} (cleared : t ≡ zeros n) 
       let h : 48 * length es ≤ n = omega arith in
       let b : t′ ≡ over (tableBytes es) (zeros n) = W .table ∙ ap (λ (x : List ℕ). putAll x 0 es) cleared ∙ put-over n es h in
       let k : w ≡ length es = omega (arith, W .used) in
-      let held : Filled t′ n es = record { bytes = b; room = h; fit = W .fit } in
-      (rw (q, k), λ fs z. let i : es ≡ fs = cc in subst (Filled t′ n) i held)
+      (rw (q, k, b) (ap given (entries-back es _ (W .fit))), (rw q b, rw k h))
 
-  pub tree-refused : {x : ℕ} → Stops (roomIn (length t) - 0) (whole d base) x → Said d base n t′ (Refused x)
-  unfolding wholeTree
-  tree-refused {x} s =
+  pub tree-refused : {x : ℕ} {r : Parsed} → Stops (roomIn (length t) - 0) (whole d base) x → r ≡ Refused x → t′ ≡ zeros n → Said d base n t′ r
+  unfolding wholeTree treeBy
+  tree-refused {x} {r} s f g =
       let e : roomIn (length t) - 0 ≡ roomIn n = sub-zero (roomIn (length t)) ∙ room-cleared n cleared in
       let z : within (roomIn n) (read d base) .stop ≡ fault x = rw (e, whole-is d base) at (s .number) in
       let q : treeInto d base n ≡ refused x = rw z in
-      (rw q, λ fs y. absurd (let z : _≡_ {A = ℕ} 0 1 = cc in omega arith))
-
--- ---- for callers: what each answer tells, and what was read where a tree is whole
-
-pub parsed-entries : (a : Answer (List Entry)) (n : ℕ) → Entries n ≡ parsedOf a → (es : List Entry) × (a ≡ given es) × (n ≡ length es)
-parsed-entries (given es) n e = (es, refl, cc)
-parsed-entries (refused x) n e = absurd (let z : _≡_ {A = ℕ} 0 1 = cc in omega arith)
+      (rw (f, q) refl, (rw q g, rw f tt))

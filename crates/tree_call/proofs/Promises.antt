@@ -63,10 +63,14 @@ module _ (s : List ℕ) (u : Summary) (name bytes : List ℕ) where
     ),
   )
 
-  pub refused-tree : {n r : ℕ} {out : List ℕ} → treeNamed s u name (roomIn (length bytes)) ≡ refused n → r ≡ n → out ≡ zeros (length bytes) → Promised r out
-  unfolding treeCall treeBy
-  refused-tree q z e = promised (z ∙ rw q refl) (e ∙ rw q refl)
+  -- the table as the call leaves it
+  abbrev Left : List ℕ → Type 0
+  Left out = out ≡ treeBy (length bytes) (treeNamed s u name (roomIn (length bytes))) .buffer
 
-  pub read-tree : {es : List Entry} {out : List ℕ} → treeNamed s u name (roomIn (length bytes)) ≡ given es → out ≡ over (tableBytes es) (zeros (length bytes)) → Promised 0 out
+  pub refused-tree : {n : ℕ} {out : List ℕ} → treeNamed s u name (roomIn (length bytes)) ≡ refused n → Left out → Promised n out
   unfolding treeCall treeBy
-  read-tree q e = promised (rw q refl) (e ∙ rw q refl)
+  refused-tree q e = promised (rw q refl) e
+
+  pub read-tree : {es : List Entry} {out : List ℕ} → treeNamed s u name (roomIn (length bytes)) ≡ given es → Left out → Promised 0 out
+  unfolding treeCall treeBy
+  read-tree q e = promised (rw q refl) e

@@ -1,12 +1,12 @@
 // The tree call: the tree of the chunk that the map has under a name, in the lent table.
 use chunk::data_of;
 use chunk::map::look_up;
-use cursor::clear;
 use format::Summary;
 use format::refusal;
 use named_tree::read_named;
 use summary::bad_summary;
 use tree::Parsed;
+use tree::refuse;
 ghost use mathlib.Core.Path.{_≡_};
 ghost use mathlib.Core.Logic.{_↔_};
 ghost use mathlib.Core.List.{List};
@@ -25,23 +25,15 @@ ghost use Rattle.named_tree.specs.Named.{Reads};
 // The number of a tree that is read whole.
 const ACCEPTED: u32 = 0;
 
-// The tree under a name, and every refusal in order. What a refused tree leaves in the table is not said.
+// The tree under a name, and every refusal in order, with a table of zeros.
 fn tree_named(file: &[u8], u: Summary, name: &[u8], table: &mut [u8]) -> Parsed
     ensures { λ r. ⌜ Reads (now (file .entry)) (now (table .exit)) (length (now (table .entry))) (treeNamed (now (file .entry)) u (now (name .entry)) (roomIn (length (now (table .entry))))) r ⌝ }
 {
     if bad_summary(file, u) {
-        return Parsed::Refused(refusal::SUMMARY);
+        return refuse(table, refusal::SUMMARY);
     }
     let map = data_of(file, u.map.start, u.map.len);
     read_named(file, look_up(map, name), table)
-}
-
-// A refusal's number, and a table of zeros.
-fn refuse(table: &mut [u8], n: u32) -> u32
-    ensures { λ r. ⌜ (r ≡ n) × (now (table .exit) ≡ zeros (length (now (table .entry)))) ⌝ }
-{
-    clear(table);
-    n
 }
 
 // The entries of the tree under a name, in file order and with zeros behind them; 0, or the number of the first refusal and a table of zeros.
@@ -55,6 +47,6 @@ pub fn tree(file: &[u8], u: Summary, name: &[u8], table: &mut [u8]) -> u32
 {
     match tree_named(file, u, name, table) {
         Parsed::Entries(_) => ACCEPTED,
-        Parsed::Refused(n) => refuse(table, n),
+        Parsed::Refused(n) => n,
     }
 }

@@ -4,7 +4,8 @@ use denote.Ref.{now}
 use lib.ListN.{length}
 use Rattle.format.specs.Trees.{roomIn}
 use Rattle.chunk.specs.Answers.{lookupOf}
-use Rattle.named_tree.specs.Named.{treeUnder, Held}
+use Rattle.named_tree.specs.Named.{treeUnder, Reads}
+use Rattle.tree.specs.declared.Parsed.the-variants.{Entries}
 use Rattle.channels.proofs.Readying.{ready-given, ready-refused, ready-empty, by-given, by-table, by-fault}
 use borrow.Author.Needs.{needs}
 use Rattle.channels.proofs.read_planes.Statement.{statement}
@@ -25,7 +26,8 @@ same-length c = search needs
 returns : tie.Need-returns
 returns c =
     let n = c .before .before .before in
-    ready-refused _ _ _ _ (c .without .ensures .1) 18 (by-table _ _ (rw (n .n .given .1) at (n .before .before .before .before .read-named .ensures)) (c .before .if1 .taken)) (c .without .ensures .0)
+    let h = rw (n .n .given .1) at (n .before .before .before .before .read-named .ensures) in
+    ready-refused _ _ _ _ (h .table) (c .without .ensures .1) 18 (by-table _ _ (h .answer) (c .before .if1 .taken)) (c .without .ensures .0)
 
 without-requires-2 : tie.Need-without-requires-2
 without-requires-2 c κs = search needs
@@ -37,7 +39,7 @@ enum-known-used c = search needs
 module _ (c : tie.After-known-told2) where
   whole : let d = c .before .before .before .before .before in
       let a = d .before .before .before .before .args in
-      Held (now (a .file)) (d .read-named .last .1 .1 .0) (length (now (a .table))) (treeUnder (now (a .file)) (roomIn (length (now (a .table)))) (lookupOf (a .at))) (c .before .used .given .0 .0)
+      Reads (now (a .file)) (d .read-named .last .1 .1 .0) (length (now (a .table))) (treeUnder (now (a .file)) (roomIn (length (now (a .table)))) (lookupOf (a .at))) (Entries (c .before .used .given .0 .0))
   whole = rw (c .before .used .given .1) at (c .before .before .before .before .before .read-named .ensures)
 
 planes-in-requires : tie.Need-planes-in-requires
@@ -49,7 +51,8 @@ same-length-2 c = search needs
 returns-2 : tie.Need-returns-2
 returns-2 c =
     let n = c .before .before .before in
-    ready-empty _ _ _ _ (c .without2 .ensures .1) (by-fault _ _ (rw (n .n .given .1) at (n .before .before .before .before .read-named .ensures)) (c .before .if1 .left)) (c .without2 .ensures .0)
+    let h = rw (n .n .given .1) at (n .before .before .before .before .read-named .ensures) in
+    ready-empty _ _ _ _ (h .table) (c .without2 .ensures .1) (by-fault _ _ (h .answer) (c .before .if1 .left)) (c .without2 .ensures .0)
 
 same-length-3 : tie.Need-same-length-3
 same-length-3 c = search needs
@@ -57,7 +60,7 @@ same-length-3 c = search needs
 returns-3 : tie.Need-returns-3
 returns-3 c =
     let h = whole (c .before .before) in
-    ready-given _ _ _ _ _ (by-given _ _ (h .answer)) refl (c .planes-in .ensures)
+    ready-given _ _ _ _ (h .table) _ (by-given _ _ (h .answer)) refl (c .planes-in .ensures)
 
 pub read-planes-spec : {M : Type 1} → statement M
 read-planes-spec =

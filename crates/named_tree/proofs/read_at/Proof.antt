@@ -3,7 +3,7 @@ use mathlib.Core.Path.{ap, _∙_}
 use native.Mathlib.Omega.{arith}
 use lib.ListN.{length}
 use Rattle.format.proofs.Bytes.{part-length}
-use Rattle.named_tree.proofs.Answers.{no-chunk, chunk-reads}
+use Rattle.named_tree.proofs.Answers.{refused-reads, no-chunk, chunk-reads}
 use borrow.Author.Needs.{needs}
 use Rattle.named_tree.proofs.read_at.Statement.{statement}
 use Rattle.named_tree.proofs.read_at.Tie as tie
@@ -17,6 +17,9 @@ chunk-data-requires c κs = search needs
 enum-told : tie.Need-enum-told
 enum-told c = search needs
 
+refuse-requires : tie.Need-refuse-requires
+refuse-requires c κs = search needs
+
 enum-known-r : tie.Need-enum-known-r
 enum-known-r c = search needs
 
@@ -29,11 +32,17 @@ parse-clx-variant-requires c κs =
     let h = rw (r .r .given .1) at (r .before .before .chunk-data .ensures .1) in
     omega (arith, h, ap length (c .before .data-of .ensures) ∙ part-length _ _ _ h)
 
-returns : tie.Need-returns
-returns c = no-chunk _ _ _ (rw (c .enum-told .given .1) at (c .before .before .chunk-data .ensures .0))
-
 same-length : tie.Need-same-length
 same-length c = search needs
+
+returns : tie.Need-returns
+returns c =
+    let z = c .before .before .refuse .ensures in
+    let e = c .before .before .before .before in
+    refused-reads (no-chunk _ _ _ (rw (e .enum-told .given .1) at (e .before .before .chunk-data .ensures .0))) (z .0) (z .1)
+
+same-length-2 : tie.Need-same-length-2
+same-length-2 c = search needs
 
 returns-2 : tie.Need-returns-2
 returns-2 c =
@@ -41,7 +50,7 @@ returns-2 c =
     let d = c .before .before .before .before in
     let r = d .before .before .r .given .1 in
     let e = d .before .before .before .before .chunk-data .ensures in
-    chunk-reads _ _ _ (search needs) (rw r at (e .1)) (rw r at (e .0)) (d .data-of .ensures) (p .ensures .0) (p .ensures .1)
+    chunk-reads _ _ _ (search needs) (rw r at (e .1)) (rw r at (e .0)) (d .data-of .ensures) (p .ensures .0) (p .ensures .1 .0)
 
 pub read-at-spec : {M : Type 1} → statement M
 read-at-spec =
@@ -50,9 +59,11 @@ read-at-spec =
     slice-aggregate-chunk-data
     chunk-data-requires
     enum-told
+    refuse-requires
     enum-known-r
     data-of-requires
     parse-clx-variant-requires
-    returns
     same-length
+    returns
+    same-length-2
     returns-2)

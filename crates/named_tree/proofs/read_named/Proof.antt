@@ -1,5 +1,5 @@
 -- `named_tree::read_named`: what the lookup found decides.
-use Rattle.named_tree.proofs.Answers.{under-at, under-absent, under-refused}
+use Rattle.named_tree.proofs.Answers.{refused-reads, under-at, under-absent, under-refused}
 use borrow.Author.Needs.{needs}
 use Rattle.named_tree.proofs.read_named.Statement.{statement}
 use Rattle.named_tree.proofs.read_named.Tie as tie
@@ -13,8 +13,14 @@ read-at-requires c κs = search needs
 enum-told : tie.Need-enum-told
 enum-told c = search needs
 
+refuse-requires : tie.Need-refuse-requires
+refuse-requires c κs = search needs
+
 enum-told-2 : tie.Need-enum-told-2
 enum-told-2 c = search needs
+
+refuse-requires-2 : tie.Need-refuse-requires-2
+refuse-requires-2 c κs = search needs
 
 same-length : tie.Need-same-length
 same-length c = search needs
@@ -22,11 +28,21 @@ same-length c = search needs
 returns : tie.Need-returns
 returns c = rw (c .before .before .before .before .before .at .given .1, under-at) (c .before .before .read-at .ensures)
 
+same-length-2 : tie.Need-same-length-2
+same-length-2 c = search needs
+
 returns-2 : tie.Need-returns-2
-returns-2 c = rw (c .enum-told .given .1) (under-absent _ _)
+returns-2 c =
+    let z = c .before .before .refuse .ensures in
+    rw (c .before .before .before .before .enum-told .given .1) (refused-reads (under-absent _ _) (z .0) (z .1))
+
+same-length-3 : tie.Need-same-length-3
+same-length-3 c = search needs
 
 returns-3 : tie.Need-returns-3
-returns-3 c = rw (c .enum-told2 .given .1) (under-refused _ _ _)
+returns-3 c =
+    let z = c .before .before .refuse2 .ensures in
+    rw (c .before .before .before .before .enum-told2 .given .1) (refused-reads (under-refused _ _ _) (z .0) (z .1))
 
 pub read-named-spec : {M : Type 1} → statement M
 read-named-spec =
@@ -35,8 +51,12 @@ read-named-spec =
     enum-known-at
     read-at-requires
     enum-told
+    refuse-requires
     enum-told-2
+    refuse-requires-2
     same-length
     returns
+    same-length-2
     returns-2
+    same-length-3
     returns-3)

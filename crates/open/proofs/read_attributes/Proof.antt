@@ -22,7 +22,7 @@ same-length : tie.Need-same-length
 same-length c = search needs
 
 returns : tie.Need-returns
-returns c = sym (stops _ _ (rw (c .before .n .given .1) at (c .before .before .before .before .before .read-named .ensures)))
+returns c = sym (stops _ _ (rw (c .before .n .given .1) at (c .before .before .before .before .before .read-named .ensures .answer)))
 
 same-length-2 : tie.Need-same-length-2
 same-length-2 c = search needs

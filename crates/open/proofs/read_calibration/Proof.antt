@@ -26,7 +26,7 @@ same-length c = search needs
 returns : tie.Need-returns
 returns c =
     let k = c .before in
-    c .uncalibrated .ensures _ _ ∙ sym (ap (calibrationBy _ _) (rw (k .before .n .given .1) at (k .before .before .before .before .before .read-named .ensures)))
+    c .uncalibrated .ensures _ _ ∙ sym (ap (calibrationBy _ _) (rw (k .before .n .given .1) at (k .before .before .before .before .before .read-named .ensures .answer)))
 
 same-length-2 : tie.Need-same-length-2
 same-length-2 c = search needs

@@ -7,11 +7,12 @@ use borrow.Author.Needs.{needs}
 use denote.Ref.{now}
 use lib.Seq.{sets}
 use Rattle.format.specs.Trees.{entryBytes, value, childrenAt}
-use Rattle.tree.specs.Steps.{HeadRead, LeafRead, LevelRead, entryFor}
+use Rattle.cursor.specs.Steps.{HeadRead, LeafRead, LevelRead}
+use Rattle.tree.specs.Steps.{entryFor}
 use Rattle.tree.specs.Table.{Fit}
-use Rattle.tree.specs.declared.Head.the-variants.{Named}
-use Rattle.tree.specs.declared.Leaf.the-variants.{Value}
-use Rattle.tree.specs.declared.Level.the-variants.{Inner}
+use Rattle.cursor.specs.declared.record.Head.the-variants.{Named}
+use Rattle.cursor.specs.declared.record.Leaf.the-variants.{Value}
+use Rattle.cursor.specs.declared.record.Level.the-variants.{Inner}
 use Rattle.tree.proofs.Runs.{Turned, begin, kept-length, ends-none, ends-here, ends-bad, ends-full, fails, turn, Placed, leaf-stops, leaf-went, level-unfit, level-deep, level-fault, level-went}
 use borrow.Fn.Kinds.{In}
 use borrow.Fn.PlainCycle.{Measures, is, falls, and}
@@ -24,9 +25,9 @@ use Rattle.tree.proofs.+parse_clx_records+parse_clx_value.Lts-parse_clx
 use Rattle.tree.proofs.entry_of.Reads as entry-of-reads
 use Rattle.tree.proofs.put_entry.Reads as put-entry-reads
 use Rattle.tree.proofs.read_head.Reads as read-head-reads
-use Rattle.tree.proofs.read_leaf.Reads as read-leaf-reads
-use Rattle.tree.proofs.read_level.Reads as read-level-reads
-use Rattle.tree.proofs.skip_offsets.Reads as skip-offsets-reads
+use Rattle.cursor.proofs.Cursor.read_leaf.Reads as read-leaf-reads
+use Rattle.cursor.proofs.Cursor.read_level.Reads as read-level-reads
+use Rattle.tree.proofs.end_level.Reads as end-level-reads
 use Rattle.tree.proofs.+parse_clx_records+parse_clx_value.{statement}
 use Rattle.tree.proofs.+parse_clx_records+parse_clx_value.Tie.{close}
 
@@ -82,8 +83,8 @@ rv t = (
   put-entry-reads.Learnt,
   parse-clx-records-below t,
   parse-clx-records.Post,
-  skip-offsets-reads.Asked,
-  skip-offsets-reads.Learnt,
+  end-level-reads.Asked,
+  end-level-reads.Learnt,
   read-leaf-reads.Asked,
   read-leaf-reads.Learnt,
 )
@@ -253,8 +254,8 @@ parse-clx-value-enum-known-f-2 t c = search needs
 parse-clx-value-enum-known-u : (t : ℕ) → parse-clx-value-lts.Need-enum-known-u (rv t) (parse-clx-value-at t) parse-clx-value.Post
 parse-clx-value-enum-known-u t c = search needs
 
-parse-clx-value-skip-offsets-requires : (t : ℕ) → parse-clx-value-lts.Need-skip-offsets-requires (rv t) (parse-clx-value-at t) parse-clx-value.Post
-parse-clx-value-skip-offsets-requires t c κs =
+parse-clx-value-end-level-requires : (t : ℕ) → parse-clx-value-lts.Need-end-level-requires (rv t) (parse-clx-value-at t) parse-clx-value.Post
+parse-clx-value-end-level-requires t c κs =
     let g = level-at t (c .before .before .before .before .before .before .before .before .before .before .before .before .before .before .before) .good in
     g .after .order
 
@@ -305,7 +306,7 @@ parse-clx-value-returns-4 t c =
     let r = u .before .before .before .before in
     let e = r .before .before .before .before in
     let n = e .before .before .before .before .before .before in
-    level-went (placed t (n .before .before .before .before .before .before)) (n .before .before .before .if1 .taken) (level-at t n) (e .before .before .before .before .if2 .left) (stored t e .0) (rw (u .u .given .1) at (r .parse-clx-records .ensures)) (stored t e .1) _ (c .skip-offsets .ensures)
+    level-went (placed t (n .before .before .before .before .before .before)) (n .before .before .before .if1 .taken) (level-at t n) (e .before .before .before .before .if2 .left) (stored t e .0) (rw (u .u .given .1) at (r .parse-clx-records .ensures)) (stored t e .1) _ (c .end-level .ensures)
 
 parse-clx-value-returns-5 : (t : ℕ) → parse-clx-value-lts.Need-returns-5 (rv t) (parse-clx-value-at t) parse-clx-value.Post
 parse-clx-value-returns-5 t c =
@@ -362,7 +363,7 @@ pub +parse-clx-records+parse-clx-value-spec : {M : Type 1} → statement M
     (parse-clx-value-parse-clx-records-requires t)
     (parse-clx-value-enum-known-f-2 t)
     (parse-clx-value-enum-known-u t)
-    (parse-clx-value-skip-offsets-requires t)
+    (parse-clx-value-end-level-requires t)
     (parse-clx-value-read-leaf-requires t)
     (parse-clx-value-enum-known-f-3 t)
     (parse-clx-value-enum-known-at t)

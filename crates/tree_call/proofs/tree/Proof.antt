@@ -1,6 +1,4 @@
 -- `tree_call::tree`: the entries that were read, or a refusal's number and a table of zeros.
-use mathlib.Core.Path.{ap, _∙_}
-use Rattle.format.specs.Bytes.{zeros}
 use Rattle.tree_call.proofs.Promises.{refused-tree, read-tree}
 use borrow.Author.Needs.{needs}
 use Rattle.tree_call.proofs.tree.Statement.{statement}
@@ -15,26 +13,21 @@ enum-told c = search needs
 enum-known-n : tie.Need-enum-known-n
 enum-known-n c = search needs
 
-refuse-requires : tie.Need-refuse-requires
-refuse-requires c κs = search needs
-
 same-length : tie.Need-same-length
 same-length c = search needs
 
 returns : tie.Need-returns
 returns c =
     let r = rw (c .enum-told .given .1) at (c .before .before .before .before .tree-named .ensures) in
-    read-tree _ _ _ _ (r .answer) (r .bytes)
+    read-tree _ _ _ _ (r .answer) (r .table)
 
 same-length-2 : tie.Need-same-length-2
 same-length-2 c = search needs
 
 returns-2 : tie.Need-returns-2
 returns-2 c =
-    let r = c .before .before .refuse .ensures in
-    let d = c .before .before .before .before .before in
-    let t = d .before .before .before .before .tree-named in
-    refused-tree _ _ _ _ (rw (d .n .given .1) at (t .ensures)) (r .0) (r .1 ∙ ap zeros (t .kept .1 .1 .1 .0))
+    let r = rw (c .before .n .given .1) at (c .before .before .before .before .before .tree-named .ensures) in
+    refused-tree _ _ _ _ (r .answer) (r .table)
 
 pub tree-spec : {M : Type 1} → statement M
 tree-spec =
@@ -43,7 +36,6 @@ tree-spec =
     tree-named-requires
     enum-told
     enum-known-n
-    refuse-requires
     same-length
     returns
     same-length-2

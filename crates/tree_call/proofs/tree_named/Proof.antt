@@ -9,6 +9,7 @@ use Rattle.format.specs.Summary.{badSummary}
 use Rattle.format.specs.Trees.{roomIn}
 use Rattle.format.proofs.Summaries.{sound-read}
 use Rattle.chunk.specs.Answers.{findIn}
+use Rattle.named_tree.proofs.Answers.{refused-reads}
 use Rattle.tree_call.proofs.Promises.{bad-summary, good-summary}
 use borrow.Author.Needs.{needs}
 use Rattle.tree_call.proofs.tree_named.Statement.{statement}
@@ -17,8 +18,17 @@ use Rattle.tree_call.proofs.tree_named.Tie as tie
 bad-summary-requires : tie.Need-bad-summary-requires
 bad-summary-requires c κs = search needs
 
+refuse-requires : tie.Need-refuse-requires
+refuse-requires c κs = search needs
+
+same-length : tie.Need-same-length
+same-length c = search needs
+
 returns : tie.Need-returns
-returns c = bad-summary _ _ _ _ (sym (c .before .bad-summary .ensures) ∙ c .if1 .taken)
+returns c =
+    let z = c .before .before .refuse .ensures in
+    let i = c .before .before .before .before in
+    refused-reads (bad-summary _ _ _ _ (sym (i .before .bad-summary .ensures) ∙ i .if1 .taken)) (z .0) (z .1)
 
 -- the summary passed
 module _ (c : tie.Else1) where
@@ -34,8 +44,8 @@ look-up-requires c κs = search needs
 read-named-requires : tie.Need-read-named-requires
 read-named-requires c κs = search needs
 
-same-length : tie.Need-same-length
-same-length c = search needs
+same-length-2 : tie.Need-same-length-2
+same-length-2 c = search needs
 
 returns-2 : tie.Need-returns-2
 returns-2 c =
@@ -50,9 +60,11 @@ tree-named-spec =
     tie.close
     (tie.spec
     bad-summary-requires
+    refuse-requires
+    same-length
     returns
     data-of-requires
     look-up-requires
     read-named-requires
-    same-length
+    same-length-2
     returns-2)

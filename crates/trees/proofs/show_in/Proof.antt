@@ -1,7 +1,5 @@
 -- `trees::show_in` shows as many entries as the tree has, which the table holds.
 use native.Mathlib.Omega.{arith}
-use mathlib.Core.Path.{sym, _∙_}
-use Rattle.tree.proofs.Whole.{parsed-entries}
 use borrow.Author.Needs.{needs}
 use Rattle.trees.proofs.show_in.Statement.{statement}
 use Rattle.trees.proofs.show_in.Tie as tie
@@ -31,8 +29,7 @@ show-entries-requires : tie.Need-show-entries-requires
 show-entries-requires c κs =
     let n = c .before .before .before .before in
     let r = n .before .before .before .before in
-    let (es, q, k) = parsed-entries _ _ (sym (n .n .given .1) ∙ r .parse-clx-variant .ensures .0) in
-    let h = r .parse-clx-variant .ensures .1 es q .room in
+    let h = rw (n .n .given .1) at (r .parse-clx-variant .ensures .1 .1) in
     omega (arith, r .parse-clx-variant .kept .1 .1 .0)
 
 enum-known-f : tie.Need-enum-known-f

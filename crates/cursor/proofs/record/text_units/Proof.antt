@@ -1,4 +1,4 @@
--- `tree::text_units` counts the units before the first zero. The invariant: of the units passed none is 0.
+-- `cursor::record::text_units` counts the units before the first zero. The invariant: of the units passed none is 0.
 use Prim.Native.Nat.{_-_, _≤_}
 use mathlib.Core.Path.{sym, _∙_}
 use native.Mathlib.Omega.{arith}
@@ -6,8 +6,8 @@ use borrow.Author.Count.{below-more}
 use borrow.Author.Needs.{needs}
 use Rattle.format.proofs.Trees.{text-count}
 use Rattle.format.specs.Grammar.Trees.{Units}
-use Rattle.tree.proofs.text_units.Statement.{statement}
-use Rattle.tree.proofs.text_units.Tie as tie
+use Rattle.cursor.proofs.record.text_units.Statement.{statement}
+use Rattle.cursor.proofs.record.text_units.Tie as tie
 
 abbrev Inv-loop : tie.InvT-loop
 Inv-loop d at n i₀ i = (i ≤ n) × Units d at i

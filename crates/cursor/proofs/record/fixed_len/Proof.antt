@@ -1,9 +1,9 @@
--- `tree::fixed_len` gives the bytes that the format says.
+-- `cursor::record::fixed_len` gives the bytes that the format says.
 use native.Mathlib.Omega.{arith}
 use borrow.Author.Tests.{ne-eqb}
 use Rattle.format.specs.Trees.{fixedLen}
-use Rattle.tree.proofs.fixed_len.Statement.{statement}
-use Rattle.tree.proofs.fixed_len.Tie as tie
+use Rattle.cursor.proofs.record.fixed_len.Statement.{statement}
+use Rattle.cursor.proofs.record.fixed_len.Tie as tie
 
 returns : tie.Need-returns
 unfolding fixedLen

@@ -1,20 +1,20 @@
--- `tree::read_leaf` reads a value that is no level as the format does.
-use Rattle.tree.proofs.Answers.{leaf-same, value-bytes, value-text, value-fixed, fixed-cut, fixed-read}
+-- `Cursor::read_leaf` reads a value that is no level as the format does.
+use Rattle.cursor.proofs.Answers.{leaf-same, value-bytes, value-text, value-fixed, fixed-cut, fixed-read}
 use borrow.Author.Needs.{needs}
-use Rattle.tree.proofs.read_leaf.Statement.{statement}
-use Rattle.tree.proofs.read_leaf.Tie as tie
+use Rattle.cursor.proofs.Cursor.read_leaf.Statement.{statement}
+use Rattle.cursor.proofs.Cursor.read_leaf.Tie as tie
 
-read-bytes-requires : tie.Need-read-bytes-requires
-read-bytes-requires c κs = search needs
+read-clx-bytes-requires : tie.Need-read-clx-bytes-requires
+read-clx-bytes-requires c κs = search needs
 
 returns : tie.Need-returns
-returns c = λ children start. leaf-same _ _ (value-bytes _ children _ start _ _ (c .before .if1 .taken)) (c .read-bytes .ensures)
+returns c = λ children start. leaf-same _ _ (value-bytes _ children _ start _ _ (c .before .if1 .taken)) (c .read-clx-bytes .ensures)
 
-read-text-requires : tie.Need-read-text-requires
-read-text-requires c κs = search needs
+read-clx-string-requires : tie.Need-read-clx-string-requires
+read-clx-string-requires c κs = search needs
 
 returns-2 : tie.Need-returns-2
-returns-2 c = λ children start. leaf-same _ _ (value-text _ children _ start _ _ (c .before .if2 .taken)) (c .read-text .ensures)
+returns-2 c = λ children start. leaf-same _ _ (value-text _ children _ start _ _ (c .before .if2 .taken)) (c .read-clx-string .ensures)
 
 fixed-len-requires : tie.Need-fixed-len-requires
 fixed-len-requires c κs = search needs
@@ -43,9 +43,9 @@ pub read-leaf-spec : {M : Type 1} → statement M
 read-leaf-spec =
     tie.close
     (tie.spec
-    read-bytes-requires
+    read-clx-bytes-requires
     returns
-    read-text-requires
+    read-clx-string-requires
     returns-2
     fixed-len-requires
     sub-if3

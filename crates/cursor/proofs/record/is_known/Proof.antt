@@ -1,8 +1,8 @@
--- `tree::is_known` tells the types that the format knows.
+-- `cursor::record::is_known` tells the types that the format knows.
 use borrow.Author.Needs.{needs}
 use Rattle.format.specs.Trees.{known}
-use Rattle.tree.proofs.is_known.Statement.{statement}
-use Rattle.tree.proofs.is_known.Tie as tie
+use Rattle.cursor.proofs.record.is_known.Statement.{statement}
+use Rattle.cursor.proofs.record.is_known.Tie as tie
 
 returns : tie.Need-returns
 unfolding known

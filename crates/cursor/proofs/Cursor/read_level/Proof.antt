@@ -1,17 +1,17 @@
--- `tree::read_level` judges a level's header in the format's order.
-use mathlib.Core.Path.{sym, _∙_}
+-- `Cursor::read_level` judges a level's header in the format's order.
+use mathlib.Core.Path.{sym, ap, _∙_}
 use native.Mathlib.Omega.{arith}
 use denote.Ref.{now}
-use Rattle.cursor.specs.Words.{GoodWord}
+use Rattle.cursor.specs.Words.{wordOf, GoodWord}
 use Rattle.cursor.specs.declared.Word.the-variants.{Got}
-use Rattle.tree.proofs.Answers.{level-uncounted, level-many, level-unsized, level-short, level-past, level-inner}
+use Rattle.cursor.proofs.Answers.{level-uncounted, level-many, level-unsized, level-short, level-past, level-inner}
 use borrow.Author.Needs.{needs}
-use Rattle.tree.proofs.read_level.Statement.{statement}
-use Rattle.tree.proofs.read_level.Tie as tie
+use Rattle.cursor.proofs.Cursor.read_level.Statement.{statement}
+use Rattle.cursor.proofs.Cursor.read_level.Tie as tie
 
 -- the cursors after the two numbers
 first : (c : tie.After-count)
-    → GoodWord (now (c .before .before .before .before .args .d)) (c .before .before .before .before .args .c) 4
+    → GoodWord (now (c .before .before .before .before .args .d)) (c .before .before .before .before .args .self) 4
     (Got (c .count .given .0 .0) (c .count .given .0 .1 .0))
 first c = rw (c .count .given .1) at (c .before .before .read-u32 .ensures .1)
 
@@ -33,7 +33,7 @@ returns : tie.Need-returns
 returns c =
     let n = c .before .before in
     let r = n .before .before in
-    level-many _ _ (r .before .before .pre .0) (r .before .before .pre .1) (sym (r .read-u32 .ensures .0) ∙ n .count .given .1) (c .if1 .taken)
+    level-many _ _ (r .before .before .pre .0) (r .before .before .pre .1) (sym (r .read-u32 .ensures .0) ∙ ap wordOf (n .count .given .1)) (c .if1 .taken)
 
 read-u64-requires : tie.Need-read-u64-requires
 read-u64-requires c κs = first (c .before .before) .0
@@ -53,8 +53,8 @@ returns-2 c =
     let s = m .before .before in
     let n = s .before .before .before in
     let r = n .before .before in
-    level-short _ _ (r .before .before .pre .0) (r .before .before .pre .1) (sym (r .read-u32 .ensures .0) ∙ n .count .given .1) (s .before .if1 .left)
-    (sym (s .read-u64 .ensures .0) ∙ m .length .given .1) (c .if2 .taken)
+    level-short _ _ (r .before .before .pre .0) (r .before .before .pre .1) (sym (r .read-u32 .ensures .0) ∙ ap wordOf (n .count .given .1)) (s .before .if1 .left)
+    (sym (s .read-u64 .ensures .0) ∙ ap wordOf (m .length .given .1)) (c .if2 .taken)
 
 sub-if3 : tie.Need-sub-if3
 sub-if3 c = omega (arith, second (c .before .before))
@@ -65,8 +65,8 @@ returns-3 c =
     let s = m .before .before in
     let n = s .before .before .before in
     let r = n .before .before in
-    level-past _ _ (r .before .before .pre .0) (r .before .before .pre .1) (sym (r .read-u32 .ensures .0) ∙ n .count .given .1) (s .before .if1 .left)
-    (sym (s .read-u64 .ensures .0) ∙ m .length .given .1) (c .before .if2 .left) (c .if3 .taken)
+    level-past _ _ (r .before .before .pre .0) (r .before .before .pre .1) (sym (r .read-u32 .ensures .0) ∙ ap wordOf (n .count .given .1)) (s .before .if1 .left)
+    (sym (s .read-u64 .ensures .0) ∙ ap wordOf (m .length .given .1)) (c .before .if2 .left) (c .if3 .taken)
 
 add-to : tie.Need-add-to
 add-to c =
@@ -76,15 +76,15 @@ add-to c =
 returns-4 : tie.Need-returns-4
 returns-4 c =
     let r = c .before .before in
-    level-uncounted _ _ (r .before .before .pre .0) (r .before .before .pre .1) (sym (r .read-u32 .ensures .0) ∙ c .enum-told .given .1)
+    level-uncounted _ _ (r .before .before .pre .0) (r .before .before .pre .1) (sym (r .read-u32 .ensures .0) ∙ ap wordOf (c .enum-told .given .1))
 
 returns-5 : tie.Need-returns-5
 returns-5 c =
     let s = c .before .before in
     let n = s .before .before .before in
     let r = n .before .before in
-    level-unsized _ _ (r .before .before .pre .0) (r .before .before .pre .1) (sym (r .read-u32 .ensures .0) ∙ n .count .given .1) (s .before .if1 .left)
-    (sym (s .read-u64 .ensures .0) ∙ c .enum-told2 .given .1)
+    level-unsized _ _ (r .before .before .pre .0) (r .before .before .pre .1) (sym (r .read-u32 .ensures .0) ∙ ap wordOf (n .count .given .1)) (s .before .if1 .left)
+    (sym (s .read-u64 .ensures .0) ∙ ap wordOf (c .enum-told2 .given .1))
 
 returns-6 : tie.Need-returns-6
 returns-6 c =
@@ -92,8 +92,8 @@ returns-6 c =
     let s = m .before .before in
     let n = s .before .before .before in
     let r = n .before .before in
-    level-inner _ _ (r .before .before .pre .0) (r .before .before .pre .1) (sym (r .read-u32 .ensures .0) ∙ n .count .given .1) (s .before .if1 .left)
-    (sym (s .read-u64 .ensures .0) ∙ m .length .given .1) (c .before .if2 .left) (c .if3 .left)
+    level-inner _ _ (r .before .before .pre .0) (r .before .before .pre .1) (sym (r .read-u32 .ensures .0) ∙ ap wordOf (n .count .given .1)) (s .before .if1 .left)
+    (sym (s .read-u64 .ensures .0) ∙ ap wordOf (m .length .given .1)) (c .before .if2 .left) (c .if3 .left)
 
 pub read-level-spec : {M : Type 1} → statement M
 read-level-spec =

@@ -1,10 +1,10 @@
--- `tree::judge_head` judges a record's head in the format's order.
+-- `Cursor::judge_head` judges a record's head in the format's order.
 use mathlib.Core.Path.{sym, _∙_}
 use native.Mathlib.Omega.{arith}
-use Rattle.tree.proofs.Answers.{head-packed, head-early, head-cut, head-unknown, head-named}
+use Rattle.cursor.proofs.Answers.{head-packed, head-early, head-cut, head-unknown, head-named}
 use borrow.Author.Needs.{needs}
-use Rattle.tree.proofs.judge_head.Statement.{statement}
-use Rattle.tree.proofs.judge_head.Tie as tie
+use Rattle.cursor.proofs.Cursor.judge_head.Statement.{statement}
+use Rattle.cursor.proofs.Cursor.judge_head.Tie as tie
 
 returns : tie.Need-returns
 returns c = λ d inside kind units. head-packed d (omega (arith, c .before .pre)) kind units (c .if1 .taken)

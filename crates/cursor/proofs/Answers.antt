@@ -12,52 +12,22 @@ use Rattle.format.specs.Bytes.{leAt}
 use Rattle.format.specs.Text.{units}
 use Rattle.format.specs.Trees.{at, fault, Read, ends, follow, fixedValue, textUnits, textValue, bytesValue, Children, levelValue, levelEnd, fixedLen, value, known, ChildrenAt, recordAt, records}
 use Rattle.format.specs.declared.Entry.{Entry}
 use Rattle.cursor.proofs.Reading.{was-cut, was-got}
-use Rattle.cursor.specs.Words.{Within, to, wordAt}
+use Rattle.cursor.specs.Words.{Within, to, wordOf, wordAt}
 use Rattle.cursor.specs.declared.Cursor.{Cursor}
 use Rattle.cursor.specs.declared.Word.the-variants.{Got, Cut}
-use Rattle.tree.specs.Steps.{HeadRead, LeafRead, LevelRead, Skipped}
-use Rattle.tree.specs.declared.Head.the-variants.{Named, Bad, End}
-use Rattle.tree.specs.declared.Leaf.{Leaf}
-use Rattle.tree.specs.declared.Leaf.the-variants.{Value, Wrong}
-use Rattle.tree.specs.declared.Level.the-variants.{Inner, Unfit}
-use Rattle.tree.specs.declared.Step.the-variants.{Next, Fault}
+use Rattle.cursor.specs.Steps.{HeadRead, LeafRead, LevelRead, Skipped}
+use Rattle.cursor.specs.declared.record.Head.the-variants.{Named, Bad, End}
+use Rattle.cursor.specs.declared.record.Leaf.{Leaf}
+use Rattle.cursor.specs.declared.record.Leaf.the-variants.{Value, Wrong}
+use Rattle.cursor.specs.declared.record.Level.the-variants.{Inner, Unfit}
+use Rattle.cursor.specs.declared.record.Skip.the-variants.{Past, Short}
 
 -- ---- a record's head
 
 pub head-end : (d : List ℕ) (c : Cursor) → c .end - c .at < 2 → HeadRead d c End
 unfolding records
 head-end d c h = record { says = λ base children parent count used. rw (lt-ltb (c .end) (c .at + 2) (omega arith)); good = tt }
-
--- what the first two bytes tell
-module _ (d : List ℕ) (c : Cursor) (w : Within c d) where
-  pub head-none : wordAt 1 d c ≡ Cut → HeadRead d c End
-  head-none h = let l = was-cut 1 d c h in head-end d c (omega arith)
-
-  module _ {k : ℕ} {a : Cursor} (kind : wordAt 1 d c ≡ Got k a) where
-    pub head-half : wordAt 1 d a ≡ Cut → HeadRead d c End
-    head-half h =
-        let l = was-cut 1 d a h in
-        let (f, q, p) = was-got 1 d c kind in
-        let l′ : c .end - (c .at + 1) < 1 = rw p at l in
-        head-end d c (omega arith)
-
-    pub record Begun (m : ℕ) (v : Cursor) : Type 0 where
-      pub type-is : k ≡ getD d (c .at) 0
-      pub units-are : m ≡ getD d (c .at + 1) 0
-      pub name-at : v .at ≡ c .at + 2
-      pub name-end : v .end ≡ c .end
-      pub two : c .at + 2 ≤ c .end
-
-    pub head-begun : {m : ℕ} {v : Cursor} → wordAt 1 d a ≡ Got m v → Begun m v
-    unfolding leAt
-    head-begun {m} {v} h =
-        let (f, q, p) = was-got 1 d c kind in
-        let (g, r, z) = was-got 1 d a h in
-        let r′ : m ≡ leAt 1 d (c .at + 1) = rw p at r in
-        let z′ : v ≡ to (c .at + 1 + 1) (c .end) = rw p at z in
-        let g′ : 1 ≤ c .end - (c .at + 1) = rw p at g in
-        record { type-is = omega arith; units-are = omega arith; name-at = rw z′ (omega arith); name-end = rw z′; two = omega (arith, w .order) }
 
 -- the head at i, of type k and with a name of m units, in a level that ends at e
 module _ (d : List ℕ) {i e k m : ℕ} (two : i + 2 ≤ e) (kind : k ≡ getD d i 0) (count : m ≡ getD d (i + 1) 0) where
@@ -137,13 +107,13 @@ module _ (d : List ℕ) (c : Cursor) (w : Within c d) where
     text-ended h =
         record { says = λ entry. rw (← size, le-leb (c .at + n + 2) (c .end) (omega arith)); good = (record { order = omega arith; inside = w .inside }, refl, w .order) }
 
-  pub bytes-unsized : wordAt 8 d c ≡ Cut → LeafRead d (c .end) (bytesValue d (c .at) (c .end)) (Wrong 6)
+  pub bytes-unsized : wordAt 8 d c ≡ wordOf Cut → LeafRead d (c .end) (bytesValue d (c .at) (c .end)) (Wrong 6)
   unfolding bytesValue
   bytes-unsized h =
       let l = was-cut 8 d c h in
       record { says = λ entry. record { one = refl; stops = rw (lt-leb (c .at + 8) (c .end) (omega arith)) }; good = tt }
 
-  module _ {n : ℕ} {v : Cursor} (size : wordAt 8 d c ≡ Got n v) where
+  module _ {n : ℕ} {v : Cursor} (size : wordAt 8 d c ≡ wordOf (Got n v)) where
     pub bytes-cut : v .end - v .at < n → LeafRead d (c .end) (bytesValue d (c .at) (c .end)) (Wrong 6)
     unfolding bytesValue
     bytes-cut h =
@@ -168,13 +138,13 @@ module _ (d : List ℕ) (c : Cursor) (w : Within c d) where
 -- ---- a level's header
 
 module _ (d : List ℕ) (c : Cursor) (w : Within c d) {start : ℕ} (before : start ≤ c .at) where
-  pub level-uncounted : wordAt 4 d c ≡ Cut → LevelRead d start c (Unfit 6)
+  pub level-uncounted : wordAt 4 d c ≡ wordOf Cut → LevelRead d start c (Unfit 6)
   unfolding levelValue
   level-uncounted h =
       let l = was-cut 4 d c h in
       record { says = λ children entry. rw (lt-ltb (c .end) (c .at + 4) (omega arith)) (record { one = refl; stops = refl }); good = tt }
 
-  module _ {k : ℕ} {l : Cursor} (counted : wordAt 4 d c ≡ Got k l) where
+  module _ {k : ℕ} {l : Cursor} (counted : wordAt 4 d c ≡ wordOf (Got k l)) where
     pub level-many : 10_000_000 < k → LevelRead d start c (Unfit 10)
     unfolding levelValue
     level-many h =
@@ -185,7 +155,7 @@ module _ (d : List ℕ) (c : Cursor) (w : Within c d) {start : ℕ} (before : st
         }
 
     module _ (few : k ≤ 10_000_000) where
-      pub level-unsized : wordAt 8 d l ≡ Cut → LevelRead d start c (Unfit 6)
+      pub level-unsized : wordAt 8 d l ≡ wordOf Cut → LevelRead d start c (Unfit 6)
       unfolding levelValue
       level-unsized h =
           let (a, q, p) = was-got 4 d c counted in
@@ -196,7 +166,7 @@ module _ (d : List ℕ) (c : Cursor) (w : Within c d) {start : ℕ} (before : st
             good = tt;
           }
 
-      module _ {n : ℕ} {v : Cursor} (sized : wordAt 8 d l ≡ Got n v) where
+      module _ {n : ℕ} {v : Cursor} (sized : wordAt 8 d l ≡ wordOf (Got n v)) where
         -- the two numbers, and where the children begin
         numbers : (k ≡ leAt 4 d (c .at)) × (n ≡ leAt 8 d (c .at + 4)) × (v .at ≡ c .at + 12) × (v .end ≡ c .end) × (c .at + 12 ≤ c .end)
         numbers =
@@ -246,11 +216,11 @@ module _ (d : List ℕ) (c : Cursor) (w : Within c d) {start : ℕ} (before : st
 
 -- ---- a level's end
 
-module _ (c : Cursor) (k u : ℕ) where
-  pub skip-cut : (c .end - c .at) / 8 < k → Skipped c k u (Fault 6)
+module _ (c : Cursor) (k : ℕ) where
+  pub skip-cut : (c .end - c .at) / 8 < k → Skipped c k Short
   unfolding levelEnd
   skip-cut h = record { says = rw (lt-leb (c .at + 8 * k) (c .end) (omega arith)); good = tt }
 
-  pub skip-done : c .at ≤ c .end → k ≤ (c .end - c .at) / 8 → Skipped c k u (Next (to (c .at + 8 * k) (c .end)) u)
+  pub skip-done : c .at ≤ c .end → k ≤ (c .end - c .at) / 8 → Skipped c k (Past (to (c .at + 8 * k) (c .end)))
   unfolding levelEnd
-  skip-done o h = record { says = rw (le-leb (c .at + 8 * k) (c .end) (omega arith)); good = (omega arith, refl, refl) }
+  skip-done o h = record { says = rw (le-leb (c .at + 8 * k) (c .end) (omega arith)); good = (omega arith, refl) }

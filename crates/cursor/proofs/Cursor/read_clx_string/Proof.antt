@@ -1,11 +1,11 @@
--- `tree::read_text` reads a text as the format does.
+-- `Cursor::read_clx_string` reads a text as the format does.
 use mathlib.Core.Path.{ap}
 use Prim.Native.Nat.{ℕ, _*_}
 use native.Mathlib.Omega.{arith}
-use Rattle.tree.proofs.Answers.{text-cut, text-ended}
+use Rattle.cursor.proofs.Answers.{text-cut, text-ended}
 use borrow.Author.Needs.{needs}
-use Rattle.tree.proofs.read_text.Statement.{statement}
-use Rattle.tree.proofs.read_text.Tie as tie
+use Rattle.cursor.proofs.Cursor.read_clx_string.Statement.{statement}
+use Rattle.cursor.proofs.Cursor.read_clx_string.Tie as tie
 
 sub-n : tie.Need-sub-n
 sub-n c = search needs
@@ -35,7 +35,7 @@ returns-2 c =
     let t = c .before in
     text-ended _ _ (t .before .before .pre) (ap (λ (n : ℕ). 2 * n) (t .text-units .ensures .0)) (omega arith) (c .if1 .left)
 
-pub read-text-spec : {M : Type 1} → statement M
-read-text-spec =
+pub read-clx-string-spec : {M : Type 1} → statement M
+read-clx-string-spec =
     tie.close
     (tie.spec sub-n text-units-requires mul-size add-after sub-if1 returns add-t8 returns-2)
