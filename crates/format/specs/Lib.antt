@@ -30,5 +30,6 @@ pub mod Grammar
 pub mod Refused
 -- "Both edges": the starred lines
 pub mod Edges
--- the customer's first and third demand, as statements
+-- the customer's first and third demand, as statements: the sentences that contracts say too, and the demands
+pub mod Sentences
 pub mod Demands
