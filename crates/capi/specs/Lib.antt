@@ -1,1 +1,2 @@
 pub mod OnBytes
+pub mod Said
