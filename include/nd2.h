@@ -40,7 +40,7 @@ enum {
     ND2_AXIS_TWICE = 17,  /* two loops run over one axis */
     ND2_TABLE = 18,       /* the lent table has too few entries for a tree */
     ND2_CHANNEL_ROW = 19, /* the lent row has fewer records than there are components */
-    ND2_SUMMARY = 20,     /* the summary is none that can be used, or is not of its layout */
+    ND2_SUMMARY = 20,     /* the summary is none that can be used, or none of its layout (see nd2_summary) */
     ND2_INDEX = 21,       /* scene, t, c or z is not below its count */
     ND2_CEILING = 22,     /* a plane has more than 2^32 bytes */
     ND2_NO_FRAME = 23,    /* the map has no entry for the frame */
@@ -65,7 +65,10 @@ typedef struct nd2_loop {
     uint64_t count;
 } nd2_loop;
 
-/* What opening a file tells of it. A little-endian machine may lend the address of this struct as the 144 bytes of a summary. */
+/* What opening a file tells of it. A little-endian machine may lend the address of this struct as the 144 bytes of a summary.
+ *
+ * A call that is lent another length, or last four bytes that are not zero, answers 20: that is this interface's own rule. A loop that is used
+ * and has another axis than 0, 1 or 2 is 20 too. Loops that are not used may hold anything. */
 typedef struct nd2_summary {
     nd2_loop loops[3];    /* outermost first; `depth` of them are used, the others are axis 0 and count 0 */
     uint64_t depth;
@@ -81,7 +84,7 @@ typedef struct nd2_summary {
     float x;              /* micrometres per pixel, where calibration is 1 */
     float y;
     float z;              /* micrometres per focus step, where z_class is 1 */
-    uint32_t zero;
+    uint32_t zero;        /* 0 */
 } nd2_summary;
 
 /* One channel, 56 bytes. */

@@ -1,30 +1,27 @@
 -- What a border call's number, table and samples promise: the opening's refusal, or the plane of the summary that it returned. Assumes nothing.
 use Prim.Native.Nat.{ℕ}
 use mathlib.Core.Path.{_≡_, refl, sym, _∙_}
-use mathlib.Core.Logic.{_↔_}
 use mathlib.Core.List.{List}
 use native.Mathlib.Omega.{arith}
 use lib.ListN.{length}
 use Rattle.format.specs.Answer.{Answer, given, refused, numberOf}
 use Rattle.format.specs.Bytes.{zeros}
-use Rattle.format.specs.Chunks.{dataIn}
 use Rattle.format.specs.Trees.{roomIn}
-use Rattle.format.specs.Frames.{seqIndex}
 use Rattle.format.specs.Summary.{loopsOf}
 use Rattle.format.specs.Calls.Open.{opened, openCall, summaryOrZero}
 use Rattle.format.specs.Calls.Plane.{planeCall}
 use Rattle.format.specs.Calls.Border.{borderCall, planeAfter}
-use Rattle.format.specs.Demands.{Refuses, None}
+use Rattle.format.specs.Sentences.{Refuses, Different, PlaneCopied, ReadsExactly}
 use Rattle.format.specs.Grammar.File.{Joined}
 use Rattle.format.specs.Grammar.Table.{Enough}
 use Rattle.format.specs.Refused.Order.{First}
-use Rattle.format.specs.Refused.Plane.{FrameData, PlaneRefusal, planeOrder, Copied}
+use Rattle.format.specs.Refused.Plane.{PlaneRefusal, planeOrder}
 use Rattle.format.specs.Refused.Border.{BorderFirst}
-use Rattle.format.specs.declared.Range.{Range}
 use Rattle.format.specs.declared.Summary.{Summary}
 use Rattle.format.proofs.Answers.{Numbered, NotZero, refusal}
 use Rattle.format.proofs.Nonzero.{opened-some}
 use Rattle.format.proofs.Demands.{first, third}
+use Rattle.format.proofs.Sounds.{joined-sound}
 
 module _ (s tab : List ℕ) (scene t c z : ℕ) (buf : List ℕ) where
   abbrev number : ℕ
@@ -64,13 +61,16 @@ module _ (s tab : List ℕ) (scene t c z : ℕ) (buf : List ℕ) where
   abbrev Sentences : ℕ → List ℕ → Type 0
   Sentences n out =
       (Refuses n → out ≡ buf) × (BorderFirst s tab scene t c z buf n × (((u : Summary) → Joined s u → Fits → First (R u) planeOrder n)
-      × (((n ≡ 0) ↔ ((u : Summary) × Joined s u × Fits × None (R u)))
-      × (n ≡ 0 → (u : Summary) × (p : Range) × Joined s u × FrameData s u (seqIndex (loopsOf u) scene t z) p × Copied u c (dataIn s p) buf out))))
+      × (ReadsExactly s (roomIn (length tab)) scene t c z buf n × ((n ≡ 0 → (u : Summary) × Joined s u × PlaneCopied s u scene t c z buf out)
+      × ((u : Summary) → Joined s u → Different (loopsOf u))))))
 
   abbrev pub Promised : ℕ → List ℕ → List ℕ → Type 0
   Promised n out left =
       (n ≡ borderCall s tab scene t c z buf .number) × ((left ≡ borderCall s tab scene t c z buf .table) × ((out ≡ borderCall s tab scene t c z buf .samples)
       × ((left ≡ zeros (length tab)) × Sentences n out)))
+
+  different : (u : Summary) → Joined s u → Different (loopsOf u)
+  different u j = third .frames-different s u (joined-sound s u j)
 
   -- what the grammar joins to the bytes is what opening returned
   same-theirs : number ≡ 0 → (u : Summary) → Joined s u → u ≡ theirs
@@ -92,7 +92,7 @@ module _ (s tab : List ℕ) (scene t c z : ℕ) (buf : List ℕ) where
                 λ _. refl,
                 (
                   rw (e ∙ sym p) (first .border-number s tab scene t c z buf),
-                  (λ u j h. absurd (shut u j h), ((λ x. absurd (f x), λ (u, j, h, k). absurd (shut u j h)), λ x. absurd (f x))),
+                  (λ u j h. absurd (shut u j h), ((λ x. absurd (f x), λ (u, j, h, k). absurd (shut u j h)), (λ x. absurd (f x), different))),
                 ),
               ),
             ),
@@ -124,7 +124,7 @@ module _ (s tab : List ℕ) (scene t c z : ℕ) (buf : List ℕ) where
                     λ u k _. rw (same-theirs o u k, e) (first .plane-number s theirs scene t c z buf),
                     (
                       (λ x. (theirs, j, h, a .0 (sym e ∙ x)), λ (u, k, _, none). e ∙ a .1 (rw (same-theirs o u k) at none)),
-                      λ x. let (r, d, m) = third .plane-sample s theirs scene t c z buf (sym e ∙ x) in (theirs, r, j, d, rw f m),
+                      (λ x. (theirs, j, rw f (third .plane-sample s theirs scene t c z buf (sym e ∙ x))), different),
                     ),
                   ),
                 ),

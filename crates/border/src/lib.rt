@@ -2,21 +2,17 @@
 use open::open;
 use plane::plane;
 ghost use mathlib.Core.Path.{_≡_};
-ghost use mathlib.Core.Logic.{_↔_};
 ghost use lib.ListN.{length};
 ghost use Rattle.format.specs.Bytes.{zeros};
-ghost use Rattle.format.specs.Chunks.{dataIn};
 ghost use Rattle.format.specs.Trees.{roomIn};
-ghost use Rattle.format.specs.Frames.{seqIndex};
 ghost use Rattle.format.specs.Summary.{loopsOf};
 ghost use Rattle.format.specs.Calls.Border.{borderCall};
 ghost use Rattle.format.specs.Grammar.File.{Joined};
 ghost use Rattle.format.specs.Grammar.Table.{Enough};
 ghost use Rattle.format.specs.Refused.Order.{First};
-ghost use Rattle.format.specs.Refused.Plane.{FrameData, PlaneRefusal, planeOrder, Copied};
+ghost use Rattle.format.specs.Refused.Plane.{PlaneRefusal, planeOrder};
 ghost use Rattle.format.specs.Refused.Border.{BorderFirst};
-ghost use Rattle.format.specs.Demands.{Refuses, None};
-ghost use Rattle.format.specs.declared.Range.{Range};
+ghost use Rattle.format.specs.Sentences.{Refuses, Different, PlaneCopied, ReadsExactly};
 ghost use Rattle.format.specs.declared.Summary.{Summary};
 
 // Opens a file and reads the plane of component c at a point; 0, or the number of the first refusal. The table is all zero afterwards.
@@ -36,9 +32,12 @@ pub extern "C" fn nd2_read_plane(
     ensures zeroed { λ _. ⌜ now (table .exit) ≡ zeros (length (now (table .entry))) ⌝ }
     ensures untouched { λ r. ⌜ (Refuses r → now (samples .exit) ≡ now (samples .entry)) ⌝ }
     ensures first { λ r. ⌜ BorderFirst (now (file .entry)) (now (table .entry)) scene t c z (now (samples .entry)) r ⌝ }
-    ensures then { λ r. ⌜ ((u : Summary) → Joined (now (file .entry)) u → Enough (now (file .entry)) (roomIn (length (now (table .entry)))) → First (PlaneRefusal (now (file .entry)) u scene t c z (now (samples .entry))) planeOrder r) ⌝ }
-    ensures accepted { λ r. ⌜ ((r ≡ 0) ↔ ((u : Summary) × Joined (now (file .entry)) u × Enough (now (file .entry)) (roomIn (length (now (table .entry)))) × None (PlaneRefusal (now (file .entry)) u scene t c z (now (samples .entry))))) ⌝ }
-    ensures copied { λ r. ⌜ (r ≡ 0 → (u : Summary) × (p : Range) × Joined (now (file .entry)) u × FrameData (now (file .entry)) u (seqIndex (loopsOf u) scene t z) p × Copied u c (dataIn (now (file .entry)) p) (now (samples .entry)) (now (samples .exit))) ⌝ }
+    ensures then { λ r. ⌜ ((u : Summary) → Joined (now (file .entry)) u → Enough (now (file .entry)) (roomIn (length (now (table .entry))))
+        → First (PlaneRefusal (now (file .entry)) u scene t c z (now (samples .entry))) planeOrder r) ⌝ }
+    ensures accepted { λ r. ⌜ ReadsExactly (now (file .entry)) (roomIn (length (now (table .entry)))) scene t c z (now (samples .entry)) r ⌝ }
+    ensures copied { λ r. ⌜ (r ≡ 0 → (u : Summary) × Joined (now (file .entry)) u
+        × PlaneCopied (now (file .entry)) u scene t c z (now (samples .entry)) (now (samples .exit))) ⌝ }
+    ensures different { λ _. ⌜ ((u : Summary) → Joined (now (file .entry)) u → Different (loopsOf u)) ⌝ }
 {
     let o = open(file, table);
     if o.number != 0 {

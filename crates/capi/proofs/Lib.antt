@@ -1,2 +1,3 @@
 pub mod OnSummary
+pub mod Opening
 pub mod Rows

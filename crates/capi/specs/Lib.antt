@@ -1,2 +1,3 @@
 pub mod OnBytes
 pub mod RowBytes
+pub mod Said

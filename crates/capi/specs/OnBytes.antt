@@ -14,7 +14,7 @@ use Rattle.format.specs.Channels.{emptyChannel}
 use Rattle.format.specs.Calls.Channels.{channelsCall}
 use Rattle.format.specs.Calls.Register.{registerCall}
 use Rattle.format.specs.declared.Summary.{Summary}
-use Rattle.layout.specs.Layout.{summaryFrom, channelRowBytes}
+use Rattle.layout.specs.Layout.{each, summaryFrom, channelRowBytes}
 
 -- what a call answers on the summary that the bytes say; `bad` is what the lent buffer holds where they say none
 unfoldable pub onSummary : List ℕ → (Summary → Outcome) → Option Summary → Outcome
@@ -31,7 +31,7 @@ treeOn file summary name table = onSummary (zeros (length table)) (λ u. treeCal
 
 -- the channels call on a lent row of n bytes: as many records as fit, zeros behind them. What the row held before is not looked at.
 unfoldable pub channelRow : List ℕ → Summary → List ℕ → ℕ → Outcome
-unfolding channelRowBytes over zeros
+unfolding each over zeros
 channelRow file u table n =
     let call = channelsCall file u table (replicate (n / 56) emptyChannel) in
     record { number = call .number; buffer = over (channelRowBytes (call .row)) (zeros n) }

@@ -16,24 +16,40 @@ use register::register;
 use tree_call::tree;
 ghost use mathlib.Core.Path.{_≡_};
 ghost use mathlib.Core.Option.{some};
-ghost use Prim.Native.Nat.{_*_, _≤_};
+ghost use Prim.Native.Nat.{_*_, _/_, _≤_};
 ghost use lib.ListN.{length};
 ghost use Rattle.format.specs.Bytes.{zeros, over};
+ghost use Rattle.format.specs.Trees.{roomIn};
 ghost use Rattle.format.specs.Channels.{fitted};
-ghost use Rattle.format.specs.Demands.{Refuses};
+ghost use Rattle.format.specs.Summary.{loopsOf};
 ghost use Rattle.format.specs.Calls.Open.{openCall};
+ghost use Rattle.format.specs.Grammar.File.{Joined};
+ghost use Rattle.format.specs.Refused.Order.{First};
+ghost use Rattle.format.specs.Refused.Summary.{Sound};
+ghost use Rattle.format.specs.Refused.Plane.{PlaneRefusal, planeOrder};
+ghost use Rattle.format.specs.Refused.Tree.{TreeRefusal, treeOrder};
+ghost use Rattle.format.specs.Refused.Channels.{ChannelsRefusal, channelsOrder};
+ghost use Rattle.format.specs.Refused.Register.{RegisterRefusal, registerOrder, Registered};
+ghost use Rattle.format.specs.Sentences.{Refuses, OpensExactly, Different, PlaneCopied, TreeEntered};
 ghost use Rattle.channels.specs.Ahead.{ahead, Stands};
-ghost use Rattle.layout.specs.Layout.{summaryFrom, channelRowBytes};
-ghost use Rattle.capi.specs.RowBytes.{RowOn};
+ghost use Rattle.layout.specs.Layout.{summaryBytes, summaryFrom, channelRowBytes};
+ghost use Rattle.capi.specs.RowBytes.{RowRecorded};
 ghost use Rattle.capi.specs.OnBytes.{openOn, planeOn, treeOn, channelRow, channelsOn, registerOn};
+ghost use Rattle.capi.specs.Said.{Said, WhereSaid, Unsaid, AcceptedOn};
 
 // Opens a file, and stores its summary: 0, or the number of the first refusal and a summary of zeros. The table is all zero afterwards.
 #[no_mangle]
 pub extern "C" fn nd2_open(file: &[u8], table: &mut [u8], summary: &mut [u8]) -> u32
     ensures number { λ r. ⌜ r ≡ openOn (now (file .entry)) (now (table .entry)) (now (summary .entry)) ⌝ }
     ensures table { λ _. ⌜ now (table .exit) ≡ zeros (length (now (table .entry))) ⌝ }
-    ensures summary { λ r. ⌜ (r ≡ 0 → summaryFrom (now (summary .exit)) ≡ some (openCall (now (file .entry)) (now (table .entry)) .summary)) ⌝ }
+    ensures summary { λ r. ⌜ (r ≡ 0 → now (summary .exit) ≡ summaryBytes (openCall (now (file .entry)) (now (table .entry)) .summary)) ⌝ }
     ensures refused { λ r. ⌜ (Refuses r → now (summary .exit) ≡ zeros (length (now (summary .entry)))) ⌝ }
+    ensures said { λ r. ⌜ (r ≡ 0 → summaryFrom (now (summary .exit)) ≡ some (openCall (now (file .entry)) (now (table .entry)) .summary)) ⌝ }
+    ensures exactly { λ r. ⌜ (length (now (summary .entry)) ≡ 144 → OpensExactly (now (file .entry)) (roomIn (length (now (table .entry)))) r) ⌝ }
+    ensures otherwise { λ r. ⌜ ((length (now (summary .entry)) ≡ 144 → ⊥) → r ≡ 20) ⌝ }
+    ensures theirs { λ r. ⌜ (r ≡ 0 → Said (now (summary .exit)) (Joined (now (file .entry)))) ⌝ }
+    ensures sound { λ r. ⌜ (r ≡ 0 → Said (now (summary .exit)) (Sound (now (file .entry)))) ⌝ }
+    ensures different { λ r. ⌜ (r ≡ 0 → Said (now (summary .exit)) (λ u. Different (loopsOf u))) ⌝ }
 {
     clear(summary);
     if summary.len() != SUMMARY_BYTES {
@@ -62,6 +78,12 @@ pub extern "C" fn nd2_plane(
     ensures number { λ r. ⌜ r ≡ planeOn (now (file .entry)) (now (summary .entry)) scene t c z (now (samples .entry)) .number ⌝ }
     ensures buffer { λ _. ⌜ now (samples .exit) ≡ planeOn (now (file .entry)) (now (summary .entry)) scene t c z (now (samples .entry)) .buffer ⌝ }
     ensures untouched { λ r. ⌜ (Refuses r → now (samples .exit) ≡ now (samples .entry)) ⌝ }
+    ensures first { λ r. ⌜ WhereSaid (now (summary .entry))
+        (λ u. First (PlaneRefusal (now (file .entry)) u scene t c z (now (samples .entry))) planeOrder r) ⌝ }
+    ensures unsaid { λ r. ⌜ Unsaid (now (summary .entry)) r ⌝ }
+    ensures accepted { λ r. ⌜ AcceptedOn (now (summary .entry)) (λ u. PlaneRefusal (now (file .entry)) u scene t c z (now (samples .entry))) r ⌝ }
+    ensures copied { λ r. ⌜ (r ≡ 0 → Said (now (summary .entry))
+        (λ u. PlaneCopied (now (file .entry)) u scene t c z (now (samples .entry)) (now (samples .exit)))) ⌝ }
 {
     let laid = summary_from(summary);
     if laid.ok {
@@ -77,6 +99,13 @@ pub extern "C" fn nd2_tree(file: &[u8], summary: &[u8], name: &[u8], table: &mut
     ensures number { λ r. ⌜ r ≡ treeOn (now (file .entry)) (now (summary .entry)) (now (name .entry)) (now (table .entry)) .number ⌝ }
     ensures buffer { λ _. ⌜ now (table .exit) ≡ treeOn (now (file .entry)) (now (summary .entry)) (now (name .entry)) (now (table .entry)) .buffer ⌝ }
     ensures cleared { λ r. ⌜ (Refuses r → now (table .exit) ≡ zeros (length (now (table .entry)))) ⌝ }
+    ensures first { λ r. ⌜ WhereSaid (now (summary .entry))
+        (λ u. First (TreeRefusal (now (file .entry)) u (now (name .entry)) (roomIn (length (now (table .entry))))) treeOrder r) ⌝ }
+    ensures unsaid { λ r. ⌜ Unsaid (now (summary .entry)) r ⌝ }
+    ensures accepted { λ r. ⌜ AcceptedOn (now (summary .entry))
+        (λ u. TreeRefusal (now (file .entry)) u (now (name .entry)) (roomIn (length (now (table .entry))))) r ⌝ }
+    ensures entries { λ r. ⌜ (r ≡ 0 → Said (now (summary .entry))
+        (λ u. TreeEntered (now (file .entry)) u (now (name .entry)) (length (now (table .entry))) (now (table .exit)))) ⌝ }
 {
     let laid = summary_from(summary);
     if laid.ok {
@@ -90,7 +119,8 @@ pub extern "C" fn nd2_tree(file: &[u8], summary: &[u8], name: &[u8], table: &mut
 // Stores the records of a walk, one after another.
 fn put_records(file: &[u8], table: &[u8], first: Planes, row: &mut [u8], count: usize)
     requires { ⌜ Stands (now file) (now table) first × (56 * count ≤ length (now row)) ⌝ }
-    ensures { λ _. ⌜ now (row .exit) ≡ over (channelRowBytes (fitted count (ahead (now (file .entry)) (now (table .entry)) first))) (now (row .entry)) ⌝ }
+    ensures { λ _. ⌜ now (row .exit)
+        ≡ over (channelRowBytes (fitted count (ahead (now (file .entry)) (now (table .entry)) first))) (now (row .entry)) ⌝ }
 {
     let mut p = first;
     let mut k = 0;
@@ -124,7 +154,13 @@ pub extern "C" fn nd2_channels(file: &[u8], summary: &[u8], table: &mut [u8], ro
     ensures row { λ _. ⌜ now (row .exit) ≡ channelsOn (now (file .entry)) (now (summary .entry)) (now (table .entry)) (length (now (row .entry))) .buffer ⌝ }
     ensures table { λ _. ⌜ now (table .exit) ≡ zeros (length (now (table .entry))) ⌝ }
     ensures refused { λ r. ⌜ (Refuses r → now (row .exit) ≡ zeros (length (now (row .entry)))) ⌝ }
-    ensures records { λ r. ⌜ (r ≡ 0 → RowOn (now (file .entry)) (now (summary .entry)) (length (now (row .entry))) (now (row .exit))) ⌝ }
+    ensures first { λ r. ⌜ WhereSaid (now (summary .entry))
+        (λ u. First (ChannelsRefusal (now (file .entry)) u (roomIn (length (now (table .entry)))) (length (now (row .entry)) / 56)) channelsOrder r) ⌝ }
+    ensures unsaid { λ r. ⌜ Unsaid (now (summary .entry)) r ⌝ }
+    ensures accepted { λ r. ⌜ AcceptedOn (now (summary .entry))
+        (λ u. ChannelsRefusal (now (file .entry)) u (roomIn (length (now (table .entry)))) (length (now (row .entry)) / 56)) r ⌝ }
+    ensures records { λ r. ⌜ (r ≡ 0 → Said (now (summary .entry))
+        (λ u. RowRecorded (now (file .entry)) u (length (now (row .entry))) (now (row .exit)))) ⌝ }
 {
     let laid = summary_from(summary);
     if laid.ok {
@@ -142,6 +178,11 @@ pub extern "C" fn nd2_register(file: &[u8], summary: &[u8], buffer: &mut [u8]) -
     ensures number { λ r. ⌜ r ≡ registerOn (now (file .entry)) (now (summary .entry)) (now (buffer .entry)) .number ⌝ }
     ensures buffer { λ _. ⌜ now (buffer .exit) ≡ registerOn (now (file .entry)) (now (summary .entry)) (now (buffer .entry)) .buffer ⌝ }
     ensures untouched { λ r. ⌜ (Refuses r → now (buffer .exit) ≡ now (buffer .entry)) ⌝ }
+    ensures first { λ r. ⌜ WhereSaid (now (summary .entry)) (λ u. First (RegisterRefusal (now (file .entry)) u (now (buffer .entry))) registerOrder r) ⌝ }
+    ensures unsaid { λ r. ⌜ Unsaid (now (summary .entry)) r ⌝ }
+    ensures accepted { λ r. ⌜ AcceptedOn (now (summary .entry)) (λ u. RegisterRefusal (now (file .entry)) u (now (buffer .entry))) r ⌝ }
+    ensures registered { λ r. ⌜ (r ≡ 0 → Said (now (summary .entry))
+        (λ u. Registered (now (file .entry)) u (now (buffer .entry)) (now (buffer .exit)))) ⌝ }
 {
     let laid = summary_from(summary);
     if laid.ok {

@@ -1,7 +1,6 @@
 -- What the number and the records of a channels call promise. Assumes nothing.
 use Prim.Native.Nat.{ℕ}
 use mathlib.Core.Path.{_≡_, refl, sym, ap, _∙_}
-use mathlib.Core.Logic.{_↔_}
 use mathlib.Core.List.{List}
 use lib.ListN.{length, getD, replicate, length-replicate}
 use Rattle.format.specs.Answer.{Answer, numberOf}
@@ -9,7 +8,7 @@ use Rattle.format.specs.Bytes.{zeros}
 use Rattle.format.specs.Trees.{roomIn}
 use Rattle.format.specs.Channels.{emptyChannel, fitted}
 use Rattle.format.specs.Calls.Channels.{recordsOf, rowBy, channelsCall}
-use Rattle.format.specs.Demands.{Refuses, None}
+use Rattle.format.specs.Sentences.{Refuses, AcceptedUnless}
 use Rattle.format.specs.Refused.Order.{First}
 use Rattle.format.specs.Refused.Channels.{ChannelsRefusal, channelsOrder, RecordAt, Recorded, Emptied}
 use Rattle.format.specs.Grammar.Channels.{Empty}
@@ -45,7 +44,7 @@ module _ (s : List ℕ) (u : Summary) (bytes : List ℕ) (n : ℕ) where
   unfolding channelsCall
   first = rw length-replicate at (channels-number s u bytes (replicate n emptyChannel))
 
-  accepted : (numberOf answer ≡ 0) ↔ None R
+  accepted : AcceptedUnless R (numberOf answer)
   unfolding channelsCall
   accepted = rw length-replicate at (channels-accepted s u bytes (replicate n emptyChannel))
 
@@ -67,7 +66,7 @@ module _ (s : List ℕ) (u : Summary) (bytes : List ℕ) (n : ℕ) where
   Promised i k c out =
       ((cs : List Channel) → length cs ≡ n → k ≡ channelsCall s u bytes cs .number)
       × (((cs : List Channel) → length cs ≡ n → c ≡ getD (channelsCall s u bytes cs .row) i emptyChannel)
-      × ((out ≡ zeros (length bytes)) × (First R channelsOrder k × (((k ≡ 0) ↔ None R) × ((Refuses k → Empty c) × (k ≡ 0 → RecordAt s u i c))))))
+      × ((out ≡ zeros (length bytes)) × (First R channelsOrder k × (AcceptedUnless R k × ((Refuses k → Empty c) × (k ≡ 0 → RecordAt s u i c))))))
 
   pub one-record : {t : List ℕ} {m : ℕ} {b : Answer (List Entry)} {p : Prepared} (i : ℕ) {k : ℕ} {c : Channel} {out : List ℕ} → Ready s t n (u .components) answer m b p → k ≡ p .number
       → c ≡ getD (fitted n (ahead s t (p .planes))) i emptyChannel → out ≡ zeros (length bytes) → Promised i k c out
@@ -101,7 +100,7 @@ module _ (s : List ℕ) (u : Summary) (bytes : List ℕ) (row : List Channel) wh
   abbrev pub Filled : ℕ → List ℕ → List Channel → Type 0
   Filled k ts zs =
       (k ≡ channelsCall s u bytes row .number) × (ts ≡ channelsCall s u bytes row .table) × (zs ≡ channelsCall s u bytes row .row) × (ts ≡ zeros (length bytes))
-      × First Whole channelsOrder k × ((k ≡ 0) ↔ None Whole) × (Refuses k → Emptied (length row) zs) × (k ≡ 0 → Recorded s u (length row) zs)
+      × First Whole channelsOrder k × AcceptedUnless Whole k × (Refuses k → Emptied (length row) zs) × (k ≡ 0 → Recorded s u (length row) zs)
 
   pub whole-row : {t : List ℕ} {m : ℕ} {b : Answer (List Entry)} {p : Prepared} {ts : List ℕ} {zs : List Channel}
       → Ready s t (length row) (u .components) (recordsOf s u (roomIn (length bytes)) (length row)) m b p

@@ -15,7 +15,6 @@ use record::no_channel;
 use summary::bad_summary;
 use tree::Parsed;
 ghost use mathlib.Core.Path.{_≡_};
-ghost use mathlib.Core.Logic.{_↔_};
 ghost use mathlib.Core.List.{List};
 ghost use lib.ListN.{length, getD};
 ghost use Rattle.format.specs.Bytes.{zeros};
@@ -25,7 +24,7 @@ ghost use Rattle.format.specs.Calls.Channels.{recordsOf, recordsBy, channelsCal
 ghost use Rattle.format.specs.Grammar.Channels.{Empty};
 ghost use Rattle.format.specs.Refused.Order.{First};
 ghost use Rattle.format.specs.Refused.Channels.{ChannelsRefusal, channelsOrder, RecordAt, Recorded, Emptied};
-ghost use Rattle.format.specs.Demands.{Refuses, None};
+ghost use Rattle.format.specs.Sentences.{Refuses, AcceptedUnless};
 ghost use Rattle.format.specs.declared.Channel.{Channel};
 ghost use Rattle.chunk.specs.Answers.{lookupOf};
 ghost use Rattle.named_tree.specs.Named.{treeUnder};
@@ -81,7 +80,9 @@ fn is_broken(at: Lookup) -> bool
 
 // The plane records of the tree that a lookup found, read into the table: of its refusals only 18 stops them.
 fn read_planes(file: &[u8], at: Lookup, table: &mut [u8], most: u64, row: usize) -> Prepared
-    ensures { λ r. ⌜ Ready (now (file .entry)) (now (table .exit)) row most (recordsBy (now (file .entry)) (treeUnder (now (file .entry)) (roomIn (length (now (table .entry)))) (lookupOf at))) (length (now (table .entry))) (treeUnder (now (file .entry)) (roomIn (length (now (table .entry)))) (lookupOf at)) r ⌝ }
+    ensures { λ r. ⌜ Ready (now (file .entry)) (now (table .exit)) row most
+        (recordsBy (now (file .entry)) (treeUnder (now (file .entry)) (roomIn (length (now (table .entry)))) (lookupOf at)))
+        (length (now (table .entry))) (treeUnder (now (file .entry)) (roomIn (length (now (table .entry)))) (lookupOf at)) r ⌝ }
 {
     match read_named(file, at, table) {
         Parsed::Refused(n) => {
@@ -100,7 +101,9 @@ fn read_planes(file: &[u8], at: Lookup, table: &mut [u8], most: u64, row: usize)
 // Every refusal in order, and the plane records of a row of `row` records. The table holds the tree that they are in,
 // and is all zero where none was read.
 pub fn prepare(file: &[u8], u: Summary, table: &mut [u8], row: usize) -> Prepared
-    ensures { λ r. ⌜ Ready (now (file .entry)) (now (table .exit)) row (u .components) (recordsOf (now (file .entry)) u (roomIn (length (now (table .entry)))) row) (length (now (table .entry))) (planesTree (now (file .entry)) u (roomIn (length (now (table .entry)))) row) r ⌝ }
+    ensures { λ r. ⌜ Ready (now (file .entry)) (now (table .exit)) row (u .components)
+        (recordsOf (now (file .entry)) u (roomIn (length (now (table .entry)))) row)
+        (length (now (table .entry))) (planesTree (now (file .entry)) u (roomIn (length (now (table .entry)))) row) r ⌝ }
 {
     if bad_summary(file, u) {
         return emptied(table, refusal::SUMMARY);
@@ -144,10 +147,11 @@ fn ended(lent: &mut [u8], number: u32, channel: Channel) -> OneChannel
 // The number of a channels call with a row of `row` records, and record i that it leaves there. The table is zero afterwards.
 pub fn channel(file: &[u8], u: Summary, table: &mut [u8], row: usize, i: usize) -> OneChannel
     ensures number { λ r. ⌜ ((cs : List Channel) → length cs ≡ row → r .number ≡ channelsCall (now (file .entry)) u (now (table .entry)) cs .number) ⌝ }
-    ensures record { λ r. ⌜ ((cs : List Channel) → length cs ≡ row → r .channel ≡ getD (channelsCall (now (file .entry)) u (now (table .entry)) cs .row) i emptyChannel) ⌝ }
+    ensures record { λ r. ⌜ ((cs : List Channel) → length cs ≡ row
+        → r .channel ≡ getD (channelsCall (now (file .entry)) u (now (table .entry)) cs .row) i emptyChannel) ⌝ }
     ensures cleared { λ _. ⌜ now (table .exit) ≡ zeros (length (now (table .entry))) ⌝ }
     ensures first { λ r. ⌜ First (ChannelsRefusal (now (file .entry)) u (roomIn (length (now (table .entry)))) row) channelsOrder (r .number) ⌝ }
-    ensures accepted { λ r. ⌜ ((r .number ≡ 0) ↔ None (ChannelsRefusal (now (file .entry)) u (roomIn (length (now (table .entry)))) row)) ⌝ }
+    ensures accepted { λ r. ⌜ AcceptedUnless (ChannelsRefusal (now (file .entry)) u (roomIn (length (now (table .entry)))) row) (r .number) ⌝ }
     ensures empty { λ r. ⌜ (Refuses (r .number) → Empty (r .channel)) ⌝ }
     ensures records { λ r. ⌜ (r .number ≡ 0 → RecordAt (now (file .entry)) u i (r .channel)) ⌝ }
 {
@@ -168,7 +172,8 @@ fn pass(file: &[u8], table: &mut [u8], p: Planes) -> Planes
 // Fills the row with the records of a walk, and clears the table that it goes by.
 fn fill(file: &[u8], table: &mut [u8], first: Planes, row: &mut [Channel])
     requires { ⌜ Stands (now file) (now table) first ⌝ }
-    ensures { λ _. ⌜ (now (table .exit) ≡ zeros (length (now (table .entry)))) × (now (row .exit) ≡ fitted (length (now (row .entry))) (ahead (now (file .entry)) (now (table .entry)) first)) ⌝ }
+    ensures { λ _. ⌜ (now (table .exit) ≡ zeros (length (now (table .entry))))
+        × (now (row .exit) ≡ fitted (length (now (row .entry))) (ahead (now (file .entry)) (now (table .entry)) first)) ⌝ }
 {
     let mut p = first;
     let mut i = 0;
@@ -187,7 +192,7 @@ pub fn channels(file: &[u8], u: Summary, table: &mut [u8], row: &mut [Channel]) 
     ensures row { λ _. ⌜ now (row .exit) ≡ channelsCall (now (file .entry)) u (now (table .entry)) (now (row .entry)) .row ⌝ }
     ensures cleared { λ _. ⌜ now (table .exit) ≡ zeros (length (now (table .entry))) ⌝ }
     ensures first { λ r. ⌜ First (ChannelsRefusal (now (file .entry)) u (roomIn (length (now (table .entry)))) (length (now (row .entry)))) channelsOrder r ⌝ }
-    ensures accepted { λ r. ⌜ ((r ≡ 0) ↔ None (ChannelsRefusal (now (file .entry)) u (roomIn (length (now (table .entry)))) (length (now (row .entry))))) ⌝ }
+    ensures accepted { λ r. ⌜ AcceptedUnless (ChannelsRefusal (now (file .entry)) u (roomIn (length (now (table .entry)))) (length (now (row .entry)))) r ⌝ }
     ensures emptied { λ r. ⌜ (Refuses r → Emptied (length (now (row .entry))) (now (row .exit))) ⌝ }
     ensures records { λ r. ⌜ (r ≡ 0 → Recorded (now (file .entry)) u (length (now (row .entry))) (now (row .exit))) ⌝ }
 {

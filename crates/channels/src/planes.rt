@@ -58,7 +58,9 @@ fn planes_level(file: &[u8], table: &[u8], used: usize) -> Found
 // The records of the planes from `turn` on, `most` at the most.
 fn planes_from(file: &[u8], table: &[u8], used: usize, turn: Turn, most: u64) -> Planes
     requires { ⌜ Holds (now file) (now table) used × Standing (entryIn (now table)) used turn ⌝ }
-    ensures { λ r. ⌜ Stands (now (file .entry)) (now (table .entry)) r × ((k : ℕ) → recordOf (now (file .entry)) (now (table .entry)) r k ≡ getD (take most (recordsFrom (now (file .entry)) (now (table .entry)) used turn)) k emptyChannel) ⌝ }
+    ensures { λ r. ⌜ Stands (now (file .entry)) (now (table .entry)) r
+        × ((k : ℕ) → recordOf (now (file .entry)) (now (table .entry)) r k
+        ≡ getD (take most (recordsFrom (now (file .entry)) (now (table .entry)) used turn)) k emptyChannel) ⌝ }
 {
     if most == 0 {
         return no_planes();
@@ -86,7 +88,9 @@ pub fn next_plane(file: &[u8], table: &[u8], p: Planes) -> Planes
 // The plane records of a tree that was read whole, `most` at the most.
 pub fn planes_in(file: &[u8], table: &[u8], used: usize, most: u64) -> Planes
     requires { ⌜ Holds (now file) (now table) used ⌝ }
-    ensures { λ r. ⌜ Stands (now (file .entry)) (now (table .entry)) r × ((k : ℕ) → recordOf (now (file .entry)) (now (table .entry)) r k ≡ getD (take most (planeRecords (now (file .entry)) (entriesIn (now (table .entry)) used))) k emptyChannel) ⌝ }
+    ensures { λ r. ⌜ Stands (now (file .entry)) (now (table .entry)) r
+        × ((k : ℕ) → recordOf (now (file .entry)) (now (table .entry)) r k
+        ≡ getD (take most (planeRecords (now (file .entry)) (entriesIn (now (table .entry)) used))) k emptyChannel) ⌝ }
 {
     match planes_level(file, table, used) {
         Found::Nothing => no_planes(),

@@ -1,7 +1,6 @@
 -- The first and the third demand hold of the definitions. Assumes nothing.
 use Prim.Native.Nat.{ℕ}
 use mathlib.Core.Path.{_≡_, refl}
-use mathlib.Core.Logic.{_↔_}
 use mathlib.Core.List.{List}
 use native.Mathlib.Omega.{arith}
 use lib.ListN.{length}
@@ -13,7 +12,8 @@ use Rattle.format.specs.Calls.Border.{borderCall, planeAfter}
 use Rattle.format.specs.Grammar.File.{Joined}
 use Rattle.format.specs.Grammar.Table.{Enough}
 use Rattle.format.specs.Refused.Summary.{Blank}
-use Rattle.format.specs.Demands.{Refuses, FirstDemand, ThirdDemand}
+use Rattle.format.specs.Sentences.{Refuses, OpensExactly}
+use Rattle.format.specs.Demands.{FirstDemand, ThirdDemand}
 use Rattle.format.specs.declared.Summary.{Summary}
 use Rattle.format.proofs.Answers.{Numbered, NotZero, refusal}
 use Rattle.format.proofs.Files.{joined-unique, opened-iff-joined}
@@ -76,7 +76,7 @@ module _ (file : List ℕ) (room : ℕ) where
   theirs : numberOf (opened file room) ≡ 0 → Joined file (summaryOrZero (opened file room)) × Enough file room
   theirs e = opened-iff-joined file room (summaryOrZero (opened file room)) .0 (opened-given e)
 
-  exactly : (numberOf (opened file room) ≡ 0) ↔ ((u : Summary) × Joined file u × Enough file room)
+  exactly : OpensExactly file room (numberOf (opened file room))
   unfolding numberOf
   exactly = (λ e. let (j, f) = theirs e in (summaryOrZero (opened file room), j, f), back)
     where
@@ -122,9 +122,7 @@ pub third : ThirdDemand
 unfolding openCall
 third = record {
   plane-sample = plane-sample;
-  frames-different = λ file table scene t z scene′ t′ z′ e w w′ q.
-      let g = joined-sound file (summaryOrZero (opened file (roomIn (length table)))) (theirs file (roomIn (length table)) e .0) in
-      seq-different (loopsOf (summaryOrZero (opened file (roomIn (length table))))) scene t z scene′ t′ z′ (g .loops-distinct) w w′ q;
+  frames-different = λ file u g scene t z scene′ t′ z′ w w′ q. seq-different (loopsOf u) scene t z scene′ t′ z′ (g .loops-distinct) w w′ q;
   number-is = frame-number;
   axis-count-is = axis-count;
   frame-count-is = frame-count;

@@ -2,11 +2,9 @@
 -- buffer."
 use Prim.Native.Nat.{ℕ, _/_, _≤_, _<_}
 use mathlib.Core.Path.{_≡_}
-use mathlib.Core.Logic.{_↔_}
 use mathlib.Core.List.{List}
 use lib.ListN.{length}
 use Rattle.format.specs.Bytes.{zeros}
-use Rattle.format.specs.Chunks.{dataIn}
 use Rattle.format.specs.Trees.{roomIn}
 use Rattle.format.specs.Frames.{countOf, seqIndex, frames}
 use Rattle.format.specs.Summary.{loopsOf}
@@ -16,33 +14,26 @@ use Rattle.format.specs.Calls.Tree.{treeCall}
 use Rattle.format.specs.Calls.Channels.{channelsCall}
 use Rattle.format.specs.Calls.Register.{registerCall}
 use Rattle.format.specs.Calls.Border.{borderCall}
-use Rattle.format.specs.Grammar.Trees.{Tree, PassedIn}
+use Rattle.format.specs.Grammar.Trees.{PassedIn}
 use Rattle.format.specs.Grammar.Frames.{FrameNumber, AxisCount, FrameCount, FrameName}
 use Rattle.format.specs.Grammar.File.{Joined}
-use Rattle.format.specs.Grammar.Table.{TreeRead, Enough}
+use Rattle.format.specs.Grammar.Table.{TreeRead}
 use Rattle.format.specs.Refusals as why
 use Rattle.format.specs.Refused.Order.{First, FirstAt}
 use Rattle.format.specs.Refused.Summary.{Sound, Blank}
-use Rattle.format.specs.Refused.Plane.{Within, FrameData, PlaneRefusal, planeOrder, Copied}
-use Rattle.format.specs.Refused.Tree.{NameData, TreeRefusal, treeOrder, Tabled}
+use Rattle.format.specs.Refused.Plane.{Within, PlaneRefusal, planeOrder}
+use Rattle.format.specs.Refused.Tree.{TreeRefusal, treeOrder, Tabled}
 use Rattle.format.specs.Refused.Channels.{ChannelsRefusal, channelsOrder, Recorded, Emptied}
 use Rattle.format.specs.Refused.Open.{TooMany, OpenRefusal, openOrder}
 use Rattle.format.specs.Refused.Border.{BorderRefusal, borderOrder, BorderFirst}
 use Rattle.format.specs.Refused.Register.{RegisterRefusal, registerOrder, Registered}
+use Rattle.format.specs.Sentences.{Refuses, AcceptedUnless, OpensExactly, Different, PlaneCopied, TreeEntered}
 use Rattle.format.specs.declared.Range.{Range}
 use Rattle.format.specs.declared.Axis.{Axis}
 use Rattle.format.specs.declared.Loop.{Loop}
 use Rattle.format.specs.declared.Entry.{Entry}
 use Rattle.format.specs.declared.Channel.{Channel}
 use Rattle.format.specs.declared.Summary.{Summary}
-
--- a call whose number is n is refused
-abbrev pub Refuses : ℕ → Type 0
-Refuses n = n ≡ 0 → ⊥
-
--- none of these refusals holds
-abbrev pub None : (ℕ → Type 0) → Type 0
-None Refusal = (n : ℕ) → Refusal n → ⊥
 
 -- The first demand: "a refusal returns its number, changes no byte of samples or register and zeroes table and channel records". Each number is the first that
 -- holds in the call's order.
@@ -64,7 +55,7 @@ pub record FirstDemand : Type 0 where
       → Refuses (treeCall file u name table .number) → treeCall file u name table .buffer ≡ zeros (length table)
   -- "One entry per record read, in file order; the rest zero."
   pub tree-table : (file : List ℕ) (u : Summary) (name table : List ℕ) → treeCall file u name table .number ≡ 0
-      → (r : Range) × (es : List Entry) × NameData file u name r × Tree file r es × Tabled es (length table) (treeCall file u name table .buffer)
+      → TreeEntered file u name (length table) (treeCall file u name table .buffer)
   pub channels-number : (file : List ℕ) (u : Summary) (table : List ℕ) (row : List Channel)
       → First (ChannelsRefusal file u (roomIn (length table)) (length row)) channelsOrder (channelsCall file u table row .number)
   pub channels-table : (file : List ℕ) (u : Summary) (table : List ℕ) (row : List Channel) → channelsCall file u table row .table ≡ zeros (length table)
@@ -94,12 +85,9 @@ pub record ThirdDemand : Type 0 where
   -- y × width + x of the buffer .. equals byte for byte the sample beginning 8 + y × row bytes + (x × components + c) × sample bytes into the data of the chunk
   -- to which the map's last entry ImageDataSeq|n! points, n counted from the loops in file order": for any summary
   pub plane-sample : (file : List ℕ) (u : Summary) (scene t c z : ℕ) (samples : List ℕ) → planeCall file u scene t c z samples .number ≡ 0
-      → (r : Range) × FrameData file u (seqIndex (loopsOf u) scene t z) r × Copied u c (dataIn file r) samples (planeCall file u scene t c z samples .buffer)
-  -- "different in-range triples (scene, t, z) have different n"
-  pub frames-different : (file table : List ℕ) (scene t z scene′ t′ z′ : ℕ) → openCall file table .number ≡ 0
-      → Within (loopsOf (openCall file table .summary)) scene t z → Within (loopsOf (openCall file table .summary)) scene′ t′ z′
-      → seqIndex (loopsOf (openCall file table .summary)) scene t z ≡ seqIndex (loopsOf (openCall file table .summary)) scene′ t′ z′
-      → (scene ≡ scene′) × (t ≡ t′) × (z ≡ z′)
+      → PlaneCopied file u scene t c z samples (planeCall file u scene t c z samples .buffer)
+  -- "different in-range triples (scene, t, z) have different n": for any summary that 20 does not refuse
+  pub frames-different : (file : List ℕ) (u : Summary) → Sound file u → Different (loopsOf u)
   -- the frame number, the count of an axis and the count of frames that these sentences speak of are those of the rules
   pub number-is : (ls : List Loop) (scene t z : ℕ) → FrameNumber ls scene t z (seqIndex ls scene t z)
   pub axis-count-is : (a : Axis) (ls : List Loop) → AxisCount a ls (countOf a ls)
@@ -110,13 +98,12 @@ pub record ThirdDemand : Type 0 where
       → seqIndex (loopsOf u) scene t z < frames (loopsOf u)
   -- "With the summary returned a plane is accepted exactly when none of the refusals that document 01 lists for that call holds": for any summary
   pub plane-accepted : (file : List ℕ) (u : Summary) (scene t c z : ℕ) (samples : List ℕ)
-      → (planeCall file u scene t c z samples .number ≡ 0) ↔ None (PlaneRefusal file u scene t c z samples)
+      → AcceptedUnless (PlaneRefusal file u scene t c z samples) (planeCall file u scene t c z samples .number)
   -- and of these 20 never holds of a summary that an opening returned
   pub opened-sound : (file table : List ℕ) → openCall file table .number ≡ 0 → Sound file (openCall file table .summary)
   -- "A file opens exactly when document 01's grammar, written without the reader, joins its bytes to a summary and the table has entries enough for the trees
   -- read."
-  pub opens-exactly : (file table : List ℕ)
-      → (openCall file table .number ≡ 0) ↔ ((u : Summary) × Joined file u × Enough file (roomIn (length table)))
+  pub opens-exactly : (file table : List ℕ) → OpensExactly file (roomIn (length table)) (openCall file table .number)
   -- "No bytes are joined to two summaries"
   pub joined-unique : (file : List ℕ) (u v : Summary) → Joined file u → Joined file v → u ≡ v
   -- "and an opening that accepts returns theirs"

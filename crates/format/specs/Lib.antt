@@ -31,5 +31,6 @@ pub mod Refused
 -- files from their parts, and "Both edges": the starred lines
 pub mod Build
 pub mod Edges
--- the customer's first and third demand, as statements
+-- the customer's first and third demand, as statements: the sentences that contracts say too, and the demands
+pub mod Sentences
 pub mod Demands

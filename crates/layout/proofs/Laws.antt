@@ -1,18 +1,19 @@
 -- Bytes that are of the layout have its length, and a summary that was stored is read back. Assumes nothing.
 use Prim.Native.Nat.{ℕ, _+_, _*_, _^_, _≤_, _<_}
-use mathlib.Core.Path.{_≡_, refl, _∙_}
-use mathlib.Core.Bool.{Bool, true, false, _&&_}
+use mathlib.Core.Path.{_≡_, refl, sym, _∙_}
+use mathlib.Core.Bool.{Bool, true, false, _&&_, or-true}
 use mathlib.Core.Option.{none, some}
-use mathlib.Core.List.{List, [], _∷_}
+use mathlib.Core.List.{List, [], _∷_, _++_}
 use native.Mathlib.Omega.{arith}
 use lib.ListN.{length, getD, length-append}
 use lib.Seq.{sets, length-sets}
 use lib.Dec.{eqb, ltb, lit<, lit≤}
-use lib.Ieee.{binary32, ofBits}
+use lib.Ieee.{Float, binary32, ofBits, toBits}
 use borrow.Author.Tests.{eqb-true, ltb-true, ltb-false}
+use Rattle.format.proofs.Buffers.{over-stored, over-all}
 use Rattle.format.proofs.Bytes.{le-stored, le-elsewhere, leBytes-length, sets-append}
 use Rattle.format.proofs.Tests.{and-left}
-use Rattle.format.specs.Bytes.{leAt, leBytes}
+use Rattle.format.specs.Bytes.{leAt, leBytes, over, zeros}
 use Rattle.format.specs.Loops.{axisNumber}
 use Rattle.format.specs.Summary.{noLoop}
 use Rattle.format.specs.declared.Axis.{Axis}
@@ -20,11 +21,13 @@ use Rattle.format.specs.declared.Axis.the-variants.{T, Z, P}
 use Rattle.format.specs.declared.Loop.{Loop}
 use Rattle.format.specs.declared.Channel.{Channel}
 use Rattle.format.specs.declared.Summary.{Summary}
-use Rattle.layout.specs.Layout.{word, wordsOf, axisFrom, loopFrom, summaryIn, ofLayout, summaryFrom, channelBytes}
+use Rattle.layout.specs.Layout.{word, axisFrom, loopFrom, summaryIn, axisSaid, ofLayout, summaryFrom}
+use Rattle.layout.specs.Layout.{each, wordsOf, singleBytes, summaryBytes, channelBytes}
+use Rattle.layout.proofs.Each.{each-length}
 
 pub laid-length : (b : List ℕ) → ofLayout b ≡ true → length b ≡ 144
 unfolding ofLayout
-laid-length b e = eqb-true (length b) 144 (and-left (eqb (length b) 144) (ltb (word b 0) 3 && ltb (word b 2) 3 && ltb (word b 4) 3 && eqb (leAt 4 b 140) 0) e)
+laid-length b e = eqb-true (length b) 144 (and-left (eqb (length b) 144) (axisSaid b 0 && axisSaid b 1 && axisSaid b 2 && eqb (leAt 4 b 140) 0) e)
 
 pub said-some : (b : List ℕ) → ofLayout b ≡ true → summaryFrom b ≡ some (summaryIn b)
 unfolding summaryFrom
@@ -168,9 +171,56 @@ module _ (u : Summary) (b : List ℕ) (nx ny nz : ℕ) (long : length b ≡ 144)
         axis-small,
         axis-small,
         axis-small,
+        or-true,
+        or-true,
+        or-true,
         end-at,
       ) refl
 
   pub stored-said : summaryFrom stored ≡ some u
   unfolding summaryFrom
   stored-said = rw (laid, said)
+
+-- Words and patterns that were stored one after another are the summary's bytes.
+module _ (u : Summary) (b₀ : List ℕ) (long : length b₀ ≡ 144) where
+  abbrev w₀ : List ℕ
+  w₀ = each (leBytes 8) (wordsOf u)
+
+  abbrev w₁ : List ℕ
+  w₁ = w₀ ++ singleBytes (u .x)
+
+  abbrev w₂ : List ℕ
+  w₂ = w₁ ++ singleBytes (u .y)
+
+  abbrev w₃ : List ℕ
+  w₃ = w₂ ++ singleBytes (u .z)
+
+  four : (x : Float) → length (singleBytes x) ≡ 4
+  four x = leBytes-length 4 (toBits binary32 x)
+
+  upto₀ : length w₀ ≡ 128
+  upto₀ = each-length (leBytes 8) 8 (leBytes-length 8) (wordsOf u)
+
+  upto₁ : length w₁ ≡ 132
+  upto₁ = rw (length-append, upto₀, four (u .x))
+
+  upto₂ : length w₂ ≡ 136
+  upto₂ = rw (length-append, upto₁, four (u .y))
+
+  upto₃ : length w₃ ≡ 140
+  upto₃ = rw (length-append, upto₂, four (u .z))
+
+  upto₄ : length (w₃ ++ leBytes 4 0) ≡ 144
+  upto₄ = rw (length-append, upto₃, leBytes-length)
+
+  pub stored-bytes : {b : List ℕ} → b ≡ over w₀ b₀
+      → sets (sets (sets (sets b 128 (singleBytes (u .x))) 132 (singleBytes (u .y))) 136 (singleBytes (u .z))) 140 (leBytes 4 0) ≡ summaryBytes u
+  unfolding summaryBytes zeros
+  stored-bytes e =
+      rw (
+        e,
+        over-stored w₀ (singleBytes (u .x)) b₀ 128 upto₀ (rw (four (u .x), long) (lit≤ tt)),
+        over-stored w₁ (singleBytes (u .y)) b₀ 132 upto₁ (rw (four (u .y), long) (lit≤ tt)),
+        over-stored w₂ (singleBytes (u .z)) b₀ 136 upto₂ (rw (four (u .z), long) (lit≤ tt)),
+        over-stored w₃ (leBytes 4 0) b₀ 140 upto₃ (rw (leBytes-length, long) (lit≤ tt)),
+      ) (over-all (w₃ ++ leBytes 4 0) b₀ (upto₄ ∙ sym long) ∙ unfold leBytes in refl)

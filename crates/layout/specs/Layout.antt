@@ -1,12 +1,12 @@
 -- Summaries and channel records as lent bytes, little-endian: what include/nd2.h declares.
 use Prim.Native.Nat.{ℕ, _+_, _*_}
-use mathlib.Core.Bool.{Bool, cond, _&&_}
+use mathlib.Core.Bool.{Bool, cond, _&&_, _||_}
 use mathlib.Core.Option.{Option, none, some}
 use mathlib.Core.List.{List, [], _∷_, _++_}
 use lib.ListN.{length, getD}
-use lib.Dec.{eqb, ltb}
-use lib.Ieee.{Float, binary32, ofBits}
-use Rattle.format.specs.Bytes.{leAt, leBytes}
+use lib.Dec.{eqb, leb, ltb}
+use lib.Ieee.{Float, binary32, ofBits, toBits}
+use Rattle.format.specs.Bytes.{leAt, leBytes, zeros}
 use Rattle.format.specs.Loops.{axisNumber}
 use Rattle.format.specs.Summary.{noLoop}
 use Rattle.format.specs.declared.Axis.{Axis}
@@ -15,6 +15,11 @@ use Rattle.format.specs.declared.Loop.{Loop}
 use Rattle.format.specs.declared.Summary.{Summary}
 use Rattle.format.specs.declared.Channel.{Channel}
 use Rattle.layout.specs.declared.Laid.{Laid}
+
+-- the bytes of each of a list, one after another
+unfoldable pub each : {A : Type 0} → (A → List ℕ) → List A → List ℕ
+each f [] = []
+each f (x ∷ xs) = f x ++ each f xs
 
 -- ---- a summary: 144 bytes
 
@@ -59,12 +64,24 @@ summaryIn b =
 abbrev pub wordsOf : Summary → List ℕ
 wordsOf u =
     let l : ℕ → Loop = λ i. getD (u .loops) i noLoop in
-    axisNumber (l 0 .axis) ∷ l 0 .count ∷ axisNumber (l 1 .axis) ∷ l 1 .count ∷ axisNumber (l 2 .axis) ∷ l 2 .count ∷ u .depth ∷ u .width ∷ u .stride ∷ u .height
-    ∷ u .components ∷ u .bits ∷ u .map .start ∷ u .map .len ∷ u .calibration ∷ u .class ∷ []
+    axisNumber (l 0 .axis) ∷ l 0 .count ∷ axisNumber (l 1 .axis) ∷ l 1 .count ∷ axisNumber (l 2 .axis) ∷ l 2 .count ∷ u .depth
+    ∷ u .width ∷ u .stride ∷ u .height ∷ u .components ∷ u .bits ∷ u .map .start ∷ u .map .len ∷ u .calibration ∷ u .class ∷ []
 
--- 144 bytes, axes that are 0, 1 or 2, and four bytes of zero at the end
+-- the four bytes of an f32's pattern
+abbrev pub singleBytes : Float → List ℕ
+singleBytes x = leBytes 4 (toBits binary32 x)
+
+-- the bytes of a summary: sixteen words, the patterns of x, y and z, and four bytes of zero
+unfoldable pub summaryBytes : Summary → List ℕ
+summaryBytes u = each (leBytes 8) (wordsOf u) ++ singleBytes (u .x) ++ singleBytes (u .y) ++ singleBytes (u .z) ++ zeros 4
+
+-- place i of the loops is not used, since no more than i are, or its axis is 0, 1 or 2
+abbrev pub axisSaid : List ℕ → ℕ → Bool
+axisSaid b i = leb (word b 6) i || ltb (word b (2 * i)) 3
+
+-- 144 bytes, axes that are 0, 1 or 2 in the places that are used, and four bytes of zero at the end
 unfoldable pub ofLayout : List ℕ → Bool
-ofLayout b = eqb (length b) 144 && (ltb (word b 0) 3 && ltb (word b 2) 3 && ltb (word b 4) 3 && eqb (leAt 4 b 140) 0)
+ofLayout b = eqb (length b) 144 && (axisSaid b 0 && axisSaid b 1 && axisSaid b 2 && eqb (leAt 4 b 140) 0)
 
 -- the summary that the bytes say, if they are of the layout
 unfoldable pub summaryFrom : List ℕ → Option Summary
@@ -82,7 +99,5 @@ channelBytes c =
     leBytes 8 (c .named) ++ leBytes 8 (c .name) ++ leBytes 8 (c .units) ++ leBytes 8 (c .colored) ++ leBytes 8 (c .red) ++ leBytes 8 (c .green)
     ++ leBytes 8 (c .blue)
 
-unfoldable pub channelRowBytes : List Channel → List ℕ
-unfolding channelBytes
-channelRowBytes [] = []
-channelRowBytes (c ∷ cs) = channelBytes c ++ channelRowBytes cs
+abbrev pub channelRowBytes : List Channel → List ℕ
+channelRowBytes = each channelBytes

@@ -16,9 +16,10 @@ ghost use mathlib.Core.Option.{some};
 ghost use Prim.Native.Nat.{ℕ, _+_, _*_, _^_, _≤_, _<_};
 ghost use lib.ListN.{length, getD};
 ghost use lib.Seq.{sets};
-ghost use lib.Ieee.{binary32, ofBits};
-ghost use Rattle.format.specs.Bytes.{leBytes};
-ghost use Rattle.layout.specs.Layout.{word, single, wordsOf, axisFrom, loopFrom, summaryIn, ofLayout, summaryFrom, laidOf, channelBytes};
+ghost use lib.Ieee.{binary32, ofBits, toBits};
+ghost use Rattle.format.specs.Bytes.{leBytes, over};
+ghost use Rattle.layout.specs.Layout.{word, single, axisFrom, loopFrom, summaryIn, axisSaid, ofLayout, summaryFrom, laidOf};
+ghost use Rattle.layout.specs.Layout.{each, wordsOf, singleBytes, summaryBytes, channelBytes};
 
 // The bytes of a summary.
 pub const SUMMARY_BYTES: usize = 144;
@@ -116,13 +117,21 @@ fn no_summary() -> Summary {
     }
 }
 
+// Whether loop place i is not used, or has an axis.
+fn axis_said(b: &[u8], i: usize) -> bool
+    requires { ⌜ (length (now b) ≡ 144) × (i < 3) ⌝ }
+    ensures { λ r. ⌜ r ≡ axisSaid (now (b .entry)) i ⌝ }
+{
+    (le8(b, 48) <= i as u64) | (le8(b, 16 * i) < 3)
+}
+
 fn of_layout(b: &[u8]) -> bool
     ensures { λ r. ⌜ r ≡ ofLayout (now (b .entry)) ⌝ }
 {
     if b.len() != SUMMARY_BYTES {
         return false;
     }
-    (le8(b, 0) < 3) & (le8(b, 16) < 3) & (le8(b, 32) < 3) & (le4(b, 140) == 0)
+    axis_said(b, 0) & axis_said(b, 1) & axis_said(b, 2) & (le4(b, 140) == 0)
 }
 
 // The summary that lent bytes say.
@@ -153,7 +162,8 @@ fn bounded(v: u64) -> u64
 // Stores sixteen words, one after another.
 fn put_words(b: &mut [u8], w: [u64; 16])
     requires { ⌜ 128 ≤ length (now b) ⌝ }
-    ensures { λ _. ⌜ ((i : ℕ) → i < 16 → word (now (b .exit)) i ≡ getD w i 0) ⌝ }
+    ensures bytes { λ _. ⌜ now (b .exit) ≡ over (each (leBytes 8) w) (now (b .entry)) ⌝ }
+    ensures words { λ _. ⌜ ((i : ℕ) → i < 16 → word (now (b .exit)) i ≡ getD w i 0) ⌝ }
 {
     let mut i = 0;
     while i < 16 {
@@ -162,10 +172,11 @@ fn put_words(b: &mut [u8], w: [u64; 16])
     }
 }
 
-// Stores a pattern of x.
+// Stores the pattern of x, from which x is read back.
 fn put_single(b: &mut [u8], at: usize, x: f32)
     requires { ⌜ at + 4 ≤ length (now b) ⌝ }
-    ensures { λ _. ⌜ ((n : ℕ) × (n < 2 ^ 32) × (ofBits binary32 n ≡ x) × (now (b .exit) ≡ sets (now (b .entry)) at (leBytes 4 n))) ⌝ }
+    ensures bytes { λ _. ⌜ now (b .exit) ≡ sets (now (b .entry)) at (singleBytes x) ⌝ }
+    ensures back { λ _. ⌜ (toBits binary32 x < 2 ^ 32) × (ofBits binary32 (toBits binary32 x) ≡ x) ⌝ }
 {
     put4(b, at, single_bits(x) as u64);
 }
@@ -201,10 +212,11 @@ fn words_of(u: Summary) -> [u64; 16]
     ]
 }
 
-// Stores a summary.
+// Stores a summary, which is what the bytes then say.
 pub fn put_summary(b: &mut [u8], u: Summary)
     requires { ⌜ length (now b) ≡ 144 ⌝ }
-    ensures { λ _. ⌜ summaryFrom (now (b .exit)) ≡ some u ⌝ }
+    ensures bytes { λ _. ⌜ now (b .exit) ≡ summaryBytes u ⌝ }
+    ensures said { λ _. ⌜ summaryFrom (now (b .exit)) ≡ some u ⌝ }
 {
     put_words(b, words_of(u));
     put_single(b, 128, u.x);

@@ -80,9 +80,9 @@ pub fn double_bits(x: f64) -> u64
     }
 }
 
-// The same of an f32.
+// The pattern of x; for the NaN, the one with no sign and the highest digit alone.
 pub fn single_bits(x: f32) -> u32
-    ensures { λ r. ⌜ (Ieee.ofBits binary32 r ≡ x) × (r ≡ Ieee.toBits binary32 x) ⌝ }
+    ensures { λ r. ⌜ (r ≡ Ieee.toBits binary32 x) × (Ieee.ofBits binary32 r ≡ x) ⌝ }
 {
     if x != x { 0x7fc0_0000 } else { f32::to_bits(x) }
 }

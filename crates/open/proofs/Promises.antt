@@ -1,21 +1,17 @@
 -- What an opening's number and summary promise. Assumes nothing.
 use Prim.Native.Nat.{ℕ}
 use mathlib.Core.Path.{_≡_}
-use mathlib.Core.Logic.{_↔_}
 use mathlib.Core.List.{List}
 use lib.ListN.{length}
 use Rattle.format.specs.Bytes.{zeros}
 use Rattle.format.specs.Trees.{roomIn}
-use Rattle.format.specs.Frames.{seqIndex}
 use Rattle.format.specs.Summary.{loopsOf}
 use Rattle.format.specs.Calls.Open.{opened, openCall}
 use Rattle.format.specs.Grammar.File.{Joined}
-use Rattle.format.specs.Grammar.Table.{Enough}
 use Rattle.format.specs.Refused.Order.{FirstAt}
 use Rattle.format.specs.Refused.Open.{OpenRefusal, openOrder}
 use Rattle.format.specs.Refused.Summary.{Sound, Blank}
-use Rattle.format.specs.Refused.Plane.{Within}
-use Rattle.format.specs.Demands.{Refuses}
+use Rattle.format.specs.Sentences.{Refuses, OpensExactly, Different}
 use Rattle.format.specs.declared.Summary.{Summary}
 use Rattle.format.proofs.Demands.{first, third}
 use Rattle.open.specs.Parts.{Says}
@@ -25,16 +21,19 @@ module _ (s t : List ℕ) where
   -- the sentences that speak of a number and a summary
   abbrev Sentences : ℕ → Summary → Type 0
   Sentences n u =
-      FirstAt (OpenRefusal s (roomIn (length t))) openOrder n × ((Refuses n → Blank u) × (((n ≡ 0) ↔ ((v : Summary) × Joined s v × Enough s (roomIn (length t)))) × ((n ≡ 0 → Joined s u) × ((n ≡ 0 → Sound s u)
-      × ((scene t z scene′ t′ z′ : ℕ) → n ≡ 0 → Within (loopsOf u) scene t z → Within (loopsOf u) scene′ t′ z′
-      → seqIndex (loopsOf u) scene t z ≡ seqIndex (loopsOf u) scene′ t′ z′ → (scene ≡ scene′) × (t ≡ t′) × (z ≡ z′))))))
+      FirstAt (OpenRefusal s (roomIn (length t))) openOrder n × ((Refuses n → Blank u) × (OpensExactly s (roomIn (length t)) n
+      × ((n ≡ 0 → Joined s u) × ((n ≡ 0 → Sound s u) × (n ≡ 0 → Different (loopsOf u))))))
 
   abbrev Promised : Opened → List ℕ → Type 0
   Promised r out =
       (r .number ≡ openCall s t .number) × ((r .summary ≡ openCall s t .summary) × ((out ≡ openCall s t .table) × ((out ≡ zeros (length t)) × Sentences (r .number) (r .summary))))
 
+  different : openCall s t .number ≡ 0 → Different (loopsOf (openCall s t .summary))
+  different e = third .frames-different s (openCall s t .summary) (third .opened-sound s t e)
+
   sentences : Sentences (openCall s t .number) (openCall s t .summary)
-  sentences = (first .open-number s t, (first .open-refused s t, (third .opens-exactly s t, (third .returns-theirs s t, (third .opened-sound s t, third .frames-different s t)))))
+  sentences =
+      (first .open-number s t, (first .open-refused s t, (third .opens-exactly s t, (third .returns-theirs s t, (third .opened-sound s t, different)))))
 
   pub promised : {r : Opened} {out : List ℕ} → Says r (opened s (roomIn (length t))) → out ≡ zeros (length t) → Promised r out
   unfolding openCall

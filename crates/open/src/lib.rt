@@ -26,7 +26,6 @@ use named_tree::read_named;
 use number::Real;
 use tree::Parsed;
 ghost use mathlib.Core.Path.{_≡_};
-ghost use mathlib.Core.Logic.{_↔_};
 ghost use mathlib.Core.List.{List};
 ghost use mathlib.Core.Option.{Option};
 ghost use Prim.Native.Nat.{ℕ};
@@ -37,18 +36,14 @@ ghost use Rattle.format.specs.Bytes.{zeros};
 ghost use Rattle.format.specs.Trees.{roomIn};
 ghost use Rattle.format.specs.Attributes.{attributes};
 ghost use Rattle.format.specs.Calibration.{zFloat, calibrationBy};
-ghost use Rattle.format.specs.Frames.{seqIndex};
 ghost use Rattle.format.specs.Summary.{inThree, summaryOf, zeroSummary, loopsOf};
 ghost use Rattle.format.specs.Calls.Open.{opened, openCall};
 ghost use Rattle.format.specs.Grammar.File.{Joined};
-ghost use Rattle.format.specs.Grammar.Table.{Enough};
 ghost use Rattle.format.specs.Refused.Order.{FirstAt};
 ghost use Rattle.format.specs.Refused.Open.{OpenRefusal, openOrder};
 ghost use Rattle.format.specs.Refused.Summary.{Sound, Blank};
-ghost use Rattle.format.specs.Refused.Plane.{Within};
-ghost use Rattle.format.specs.Demands.{Refuses};
+ghost use Rattle.format.specs.Sentences.{Refuses, OpensExactly, Different};
 ghost use Rattle.format.specs.declared.Loop.{Loop};
-ghost use Rattle.format.specs.declared.Summary.{Summary};
 ghost use Rattle.attributes.specs.Parsed.{answer};
 ghost use Rattle.chunk.specs.Answers.{lookupOf};
 ghost use Rattle.lookup.specs.Table.{Holds, entriesIn};
@@ -160,7 +155,8 @@ fn unrecorded(number: u32) -> Recorded
 
 // The attributes in the tree of a chunk that the map has.
 fn read_attributes(file: &[u8], at: Lookup, table: &mut [u8]) -> Sizes
-    ensures { λ r. ⌜ answer r ≡ andThen (treeUnder (now (file .entry)) (roomIn (length (now (table .entry)))) (lookupOf at)) (attributes (now (file .entry))) ⌝ }
+    ensures { λ r. ⌜ answer r
+        ≡ andThen (treeUnder (now (file .entry)) (roomIn (length (now (table .entry)))) (lookupOf at)) (attributes (now (file .entry))) ⌝ }
 {
     match read_named(file, at, table) {
         Parsed::Refused(n) => Sizes::Refused(n),
@@ -201,7 +197,8 @@ fn uncalibrated(n: u32) -> Calibrated
 
 // The calibration in the tree of a chunk that the map has.
 fn read_calibration(file: &[u8], at: Lookup, table: &mut [u8], z: Real) -> Calibrated
-    ensures { λ r. ⌜ calibrationOf r ≡ calibrationBy (now (file .entry)) (zFloat (real z)) (treeUnder (now (file .entry)) (roomIn (length (now (table .entry)))) (lookupOf at)) ⌝ }
+    ensures { λ r. ⌜ calibrationOf r ≡ calibrationBy (now (file .entry)) (zFloat (real z))
+        (treeUnder (now (file .entry)) (roomIn (length (now (table .entry)))) (lookupOf at)) ⌝ }
 {
     match read_named(file, at, table) {
         Parsed::Refused(n) => uncalibrated(n),
@@ -220,7 +217,8 @@ fn after_run(
     a: Attributes,
     e: Recorded,
 ) -> Opened
-    ensures { λ r. ⌜ ((x : Answer Run) → Tells e x → Says r (andThen x (afterRun (now (file .entry)) (roomIn (length (now (table .entry)))) map (lookupOf at) a))) ⌝ }
+    ensures { λ r. ⌜ ((x : Answer Run) → Tells e x
+        → Says r (andThen x (afterRun (now (file .entry)) (roomIn (length (now (table .entry)))) map (lookupOf at) a))) ⌝ }
 {
     if e.number != 0 {
         return refused(e.number);
@@ -257,7 +255,8 @@ fn after_attributes(
 
 // After the map: the attributes.
 fn after_map(file: &[u8], table: &mut [u8], map: Range, at: Three) -> Opened
-    ensures { λ r. ⌜ Says r (afterMap (now (file .entry)) (roomIn (length (now (table .entry)))) map (lookupOf (at .a)) (lookupOf (at .b)) (lookupOf (at .c))) ⌝ }
+    ensures { λ r. ⌜ Says r (afterMap (now (file .entry)) (roomIn (length (now (table .entry)))) map
+        (lookupOf (at .a)) (lookupOf (at .b)) (lookupOf (at .c))) ⌝ }
 {
     let a = at.a;
     let b = at.b;
@@ -294,10 +293,10 @@ pub fn open(file: &[u8], table: &mut [u8]) -> Opened
     ensures zeroed { λ _. ⌜ now (table .exit) ≡ zeros (length (now (table .entry))) ⌝ }
     ensures first { λ r. ⌜ FirstAt (OpenRefusal (now (file .entry)) (roomIn (length (now (table .entry))))) openOrder (r .number) ⌝ }
     ensures refused { λ r. ⌜ (Refuses (r .number) → Blank (r .summary)) ⌝ }
-    ensures exactly { λ r. ⌜ ((r .number ≡ 0) ↔ ((u : Summary) × Joined (now (file .entry)) u × Enough (now (file .entry)) (roomIn (length (now (table .entry)))))) ⌝ }
+    ensures exactly { λ r. ⌜ OpensExactly (now (file .entry)) (roomIn (length (now (table .entry)))) (r .number) ⌝ }
     ensures theirs { λ r. ⌜ (r .number ≡ 0 → Joined (now (file .entry)) (r .summary)) ⌝ }
     ensures sound { λ r. ⌜ (r .number ≡ 0 → Sound (now (file .entry)) (r .summary)) ⌝ }
-    ensures different { λ r. ⌜ ((scene t z scene′ t′ z′ : ℕ) → r .number ≡ 0 → Within (loopsOf (r .summary)) scene t z → Within (loopsOf (r .summary)) scene′ t′ z′ → seqIndex (loopsOf (r .summary)) scene t z ≡ seqIndex (loopsOf (r .summary)) scene′ t′ z′ → (scene ≡ scene′) × (t ≡ t′) × (z ≡ z′)) ⌝ }
+    ensures different { λ r. ⌜ (r .number ≡ 0 → Different (loopsOf (r .summary))) ⌝ }
 {
     let opened = read_file(file, table);
     clear(table);

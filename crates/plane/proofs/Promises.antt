@@ -1,20 +1,16 @@
 -- What a plane call's number and buffer promise, and what they are where the frame is refused or found. Assumes nothing.
 use Prim.Native.Nat.{ℕ, _+_, _-_, _≤_}
 use mathlib.Core.Path.{_≡_, refl, sym, _∙_}
-use mathlib.Core.Logic.{_↔_}
 use mathlib.Core.List.{List}
 use native.Mathlib.Nat.{mul-comm}
 use native.Mathlib.Omega.{arith}
 use lib.ListN.{length}
 use Rattle.format.specs.Bytes.{over}
 use Rattle.format.specs.Answer.{given, refused}
-use Rattle.format.specs.Chunks.{dataIn}
-use Rattle.format.specs.Frames.{seqIndex}
-use Rattle.format.specs.Summary.{loopsOf}
 use Rattle.format.specs.Calls.Plane.{frameFor, planeSamples, planeBy, planeCall}
-use Rattle.format.specs.Demands.{Refuses, None}
+use Rattle.format.specs.Sentences.{Refuses, AcceptedUnless, PlaneCopied}
 use Rattle.format.specs.Refused.Order.{First}
-use Rattle.format.specs.Refused.Plane.{FrameData, PlaneRefusal, planeOrder, Copied}
+use Rattle.format.specs.Refused.Plane.{PlaneRefusal, planeOrder}
 use Rattle.format.specs.declared.Range.{Range}
 use Rattle.format.specs.declared.Summary.{Summary}
 use Rattle.format.proofs.Planes.{ready, plane-number, plane-accepted, plane-sample, plane-refused}
@@ -27,8 +23,8 @@ module _ (s : List ℕ) (u : Summary) (scene t c z : ℕ) (buf : List ℕ) where
   -- the call's number and buffer, and the sentences that follow
   abbrev pub Promised : ℕ → List ℕ → Type 0
   Promised n out =
-      (n ≡ planeCall s u scene t c z buf .number) × ((out ≡ planeCall s u scene t c z buf .buffer) × (First R planeOrder n × (((n ≡ 0) ↔ None R)
-      × ((n ≡ 0 → (p : Range) × FrameData s u (seqIndex (loopsOf u) scene t z) p × Copied u c (dataIn s p) buf out) × (Refuses n → out ≡ buf)))))
+      (n ≡ planeCall s u scene t c z buf .number) × ((out ≡ planeCall s u scene t c z buf .buffer) × (First R planeOrder n × (AcceptedUnless R n
+      × ((n ≡ 0 → PlaneCopied s u scene t c z buf out) × (Refuses n → out ≡ buf)))))
 
   promised : {n : ℕ} {out : List ℕ} → n ≡ planeCall s u scene t c z buf .number → out ≡ planeCall s u scene t c z buf .buffer → Promised n out
   promised e f = (

@@ -14,18 +14,13 @@ use summary::bad_index;
 use summary::bad_summary;
 use summary::seq_index;
 ghost use mathlib.Core.Path.{_≡_};
-ghost use mathlib.Core.Logic.{_↔_};
 ghost use Prim.Native.Nat.{_/_};
 ghost use lib.ListN.{length};
 ghost use Rattle.format.specs.Bytes.{over};
-ghost use Rattle.format.specs.Chunks.{dataIn};
-ghost use Rattle.format.specs.Frames.{seqIndex};
-ghost use Rattle.format.specs.Summary.{loopsOf};
 ghost use Rattle.format.specs.Calls.Plane.{badFrame, frameFor, planeCall};
 ghost use Rattle.format.specs.Refused.Order.{First};
-ghost use Rattle.format.specs.Refused.Plane.{FrameData, PlaneRefusal, planeOrder, Copied};
-ghost use Rattle.format.specs.Demands.{Refuses, None};
-ghost use Rattle.format.specs.declared.Range.{Range};
+ghost use Rattle.format.specs.Refused.Plane.{PlaneRefusal, planeOrder};
+ghost use Rattle.format.specs.Sentences.{Refuses, AcceptedUnless, PlaneCopied};
 ghost use Rattle.plane.specs.Found.{frameAnswer, foundAt, planeIn, Fit};
 
 mod copy; // rows of bytes
@@ -147,8 +142,8 @@ pub fn plane(file: &[u8], u: Summary, scene: u64, t: u64, c: u64, z: u64, sample
     ensures number { λ r. ⌜ r ≡ planeCall (now (file .entry)) u scene t c z (now (samples .entry)) .number ⌝ }
     ensures buffer { λ _. ⌜ now (samples .exit) ≡ planeCall (now (file .entry)) u scene t c z (now (samples .entry)) .buffer ⌝ }
     ensures first { λ r. ⌜ First (PlaneRefusal (now (file .entry)) u scene t c z (now (samples .entry))) planeOrder r ⌝ }
-    ensures accepted { λ r. ⌜ ((r ≡ 0) ↔ None (PlaneRefusal (now (file .entry)) u scene t c z (now (samples .entry)))) ⌝ }
-    ensures copied { λ r. ⌜ (r ≡ 0 → (p : Range) × FrameData (now (file .entry)) u (seqIndex (loopsOf u) scene t z) p × Copied u c (dataIn (now (file .entry)) p) (now (samples .entry)) (now (samples .exit))) ⌝ }
+    ensures accepted { λ r. ⌜ AcceptedUnless (PlaneRefusal (now (file .entry)) u scene t c z (now (samples .entry))) r ⌝ }
+    ensures copied { λ r. ⌜ (r ≡ 0 → PlaneCopied (now (file .entry)) u scene t c z (now (samples .entry)) (now (samples .exit))) ⌝ }
     ensures untouched { λ r. ⌜ (Refuses r → now (samples .exit) ≡ now (samples .entry)) ⌝ }
 {
     match frame_for(file, u, scene, t, c, z, samples.len()) {

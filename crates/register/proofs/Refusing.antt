@@ -1,7 +1,6 @@
 -- The refusals of a register, test by test, what is left where none holds, and what the call's number and buffer promise. Assumes nothing.
 use Prim.Native.Nat.{ℕ, zero, suc, _*_, _^_, _≤_, _<_}
 use mathlib.Core.Path.{_≡_, refl, sym, ap, _∙_}
-use mathlib.Core.Logic.{_↔_}
 use mathlib.Core.Bool.{Bool, true, false, _||_}
 use mathlib.Core.List.{List, []}
 use native.Mathlib.Omega.{arith}
@@ -15,7 +14,7 @@ use Rattle.format.specs.Map.{MapEntry, mapEntries}
 use Rattle.format.specs.Frames.{frames}
 use Rattle.format.specs.Summary.{loopsOf, mapOf, badSummary}
 use Rattle.format.specs.Calls.Register.{registerFrom, registered, registerBy, registerCall}
-use Rattle.format.specs.Demands.{Refuses, None}
+use Rattle.format.specs.Sentences.{Refuses, AcceptedUnless}
 use Rattle.format.specs.Refused.Order.{First}
 use Rattle.format.specs.Refused.Summary.{Sound}
 use Rattle.format.specs.Refused.Register.{RegisterRefusal, registerOrder, Registered}
@@ -127,7 +126,7 @@ module _ (s : List ℕ) (u : Summary) (buf : List ℕ) where
   -- the call's number and buffer, and the sentences that follow
   abbrev pub Promised : ℕ → List ℕ → Type 0
   Promised n out =
-      (n ≡ registerCall s u buf .number) × ((out ≡ registerCall s u buf .buffer) × (First R registerOrder n × (((n ≡ 0) ↔ None R)
+      (n ≡ registerCall s u buf .number) × ((out ≡ registerCall s u buf .buffer) × (First R registerOrder n × (AcceptedUnless R n
       × ((n ≡ 0 → Registered s u buf out) × (Refuses n → out ≡ buf)))))
 
   promised : {n : ℕ} {out : List ℕ} → n ≡ registerCall s u buf .number → out ≡ registerCall s u buf .buffer → Promised n out

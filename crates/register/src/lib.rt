@@ -15,7 +15,6 @@ use summary::bad_summary;
 use summary::frames;
 use summary::index_at;
 ghost use mathlib.Core.Path.{_≡_};
-ghost use mathlib.Core.Logic.{_↔_};
 ghost use mathlib.Core.List.{List, [], _∷_, _++_};
 ghost use Prim.Native.Nat.{ℕ, _+_, _*_, _^_, _≤_, _<_};
 ghost use lib.ListN.{length};
@@ -28,7 +27,7 @@ ghost use Rattle.format.specs.Calls.Register.{frameRecord, registerFrom, regist
 ghost use Rattle.format.specs.Grammar.Loops.{Counted};
 ghost use Rattle.format.specs.Refused.Order.{First};
 ghost use Rattle.format.specs.Refused.Register.{RegisterRefusal, registerOrder, Registered};
-ghost use Rattle.format.specs.Demands.{Refuses, None};
+ghost use Rattle.format.specs.Sentences.{Refuses, AcceptedUnless};
 ghost use Rattle.chunk.specs.Scan.{entryAt};
 ghost use Rattle.register.specs.Taking.{Taken};
 
@@ -79,7 +78,8 @@ fn put_frames(buffer: &mut [u8], u: Summary, count: u64)
 // Stores the place that the entry at `at`, whose name has n bytes, gives for one of `count` frames.
 fn put_entry(map: &[u8], at: usize, n: usize, buffer: &mut [u8], count: u64)
     requires { ⌜ (at + n + 16 ≤ length (now map)) × (24 * count ≤ length (now buffer)) ⌝ }
-    ensures { λ _. ⌜ ((es : List MapEntry) → Taken (now (map .entry)) count es (es ++ entryAt (now (map .entry)) at n ∷ []) (now (buffer .entry)) (now (buffer .exit))) ⌝ }
+    ensures { λ _. ⌜ ((es : List MapEntry)
+        → Taken (now (map .entry)) count es (es ++ entryAt (now (map .entry)) at n ∷ []) (now (buffer .entry)) (now (buffer .exit))) ⌝ }
 {
     let Framed::Number(k) = frame_number(map, at, n) else {
         return;
@@ -92,7 +92,8 @@ fn put_entry(map: &[u8], at: usize, n: usize, buffer: &mut [u8], count: u64)
 // One pass over the map's data: the place of each frame that an entry names. The last entry of a name stays.
 fn put_entries(map: &[u8], buffer: &mut [u8], count: u64)
     requires { ⌜ 24 * count ≤ length (now buffer) ⌝ }
-    ensures { λ _. ⌜ ((es : List MapEntry) → mapEntries (now (map .entry)) ≡ given es → Taken (now (map .entry)) count [] es (now (buffer .entry)) (now (buffer .exit))) ⌝ }
+    ensures { λ _. ⌜ ((es : List MapEntry) → mapEntries (now (map .entry)) ≡ given es
+        → Taken (now (map .entry)) count [] es (now (buffer .entry)) (now (buffer .exit))) ⌝ }
 {
     let mut at = 0;
     let mut entries: u64 = 0;
@@ -139,7 +140,7 @@ pub fn register(file: &[u8], u: Summary, buffer: &mut [u8]) -> u32
     ensures number { λ r. ⌜ r ≡ registerCall (now (file .entry)) u (now (buffer .entry)) .number ⌝ }
     ensures buffer { λ _. ⌜ now (buffer .exit) ≡ registerCall (now (file .entry)) u (now (buffer .entry)) .buffer ⌝ }
     ensures first { λ r. ⌜ First (RegisterRefusal (now (file .entry)) u (now (buffer .entry))) registerOrder r ⌝ }
-    ensures accepted { λ r. ⌜ ((r ≡ 0) ↔ None (RegisterRefusal (now (file .entry)) u (now (buffer .entry)))) ⌝ }
+    ensures accepted { λ r. ⌜ AcceptedUnless (RegisterRefusal (now (file .entry)) u (now (buffer .entry))) r ⌝ }
     ensures registered { λ r. ⌜ (r ≡ 0 → Registered (now (file .entry)) u (now (buffer .entry)) (now (buffer .exit))) ⌝ }
     ensures untouched { λ r. ⌜ (Refuses r → now (buffer .exit) ≡ now (buffer .entry)) ⌝ }
 {

@@ -2,7 +2,6 @@
 use Prim.Native.Nat.{ℕ}
 use mathlib.Core.Path.{_≡_, refl, sym, _∙_}
 use mathlib.Core.Bool.{true, false}
-use mathlib.Core.Logic.{_↔_}
 use mathlib.Core.List.{List}
 use lib.ListN.{length}
 use Rattle.format.specs.Answer.{given, refused, refuseIf}
@@ -11,11 +10,9 @@ use Rattle.format.specs.Refusals as why
 use Rattle.format.specs.Trees.{roomIn, tableBytes}
 use Rattle.format.specs.Summary.{mapOf, badSummary}
 use Rattle.format.specs.Calls.Tree.{treeNamed, treeBy, treeCall}
-use Rattle.format.specs.Demands.{Refuses, None}
-use Rattle.format.specs.Grammar.Trees.{Tree}
+use Rattle.format.specs.Sentences.{Refuses, AcceptedUnless, TreeEntered}
 use Rattle.format.specs.Refused.Order.{First}
-use Rattle.format.specs.Refused.Tree.{NameData, TreeRefusal, treeOrder, Tabled}
-use Rattle.format.specs.declared.Range.{Range}
+use Rattle.format.specs.Refused.Tree.{TreeRefusal, treeOrder}
 use Rattle.format.specs.declared.Entry.{Entry}
 use Rattle.format.specs.declared.Summary.{Summary}
 use Rattle.format.proofs.TreeCalls.{tree-number, tree-accepted, tree-table, tree-refused}
@@ -44,9 +41,8 @@ module _ (s : List ℕ) (u : Summary) (name bytes : List ℕ) where
   -- the call's number and table, and the sentences that follow
   abbrev pub Promised : ℕ → List ℕ → Type 0
   Promised n out =
-      (n ≡ treeCall s u name bytes .number) × ((out ≡ treeCall s u name bytes .buffer) × (First R treeOrder n × (((n ≡ 0) ↔ None R)
-      × ((n ≡ 0 → (p : Range) × (es : List Entry) × NameData s u name p × Tree s p es × Tabled es (length bytes) out)
-      × (Refuses n → out ≡ zeros (length bytes))))))
+      (n ≡ treeCall s u name bytes .number) × ((out ≡ treeCall s u name bytes .buffer) × (First R treeOrder n × (AcceptedUnless R n
+      × ((n ≡ 0 → TreeEntered s u name (length bytes) out) × (Refuses n → out ≡ zeros (length bytes))))))
 
   promised : {n : ℕ} {out : List ℕ} → n ≡ treeCall s u name bytes .number → out ≡ treeCall s u name bytes .buffer → Promised n out
   promised e f = (

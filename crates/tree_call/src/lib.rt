@@ -8,18 +8,13 @@ use summary::bad_summary;
 use tree::Parsed;
 use tree::refuse;
 ghost use mathlib.Core.Path.{_≡_};
-ghost use mathlib.Core.Logic.{_↔_};
-ghost use mathlib.Core.List.{List};
 ghost use lib.ListN.{length};
 ghost use Rattle.format.specs.Bytes.{zeros};
 ghost use Rattle.format.specs.Trees.{roomIn};
 ghost use Rattle.format.specs.Calls.Tree.{treeNamed, treeCall};
-ghost use Rattle.format.specs.Grammar.Trees.{Tree};
 ghost use Rattle.format.specs.Refused.Order.{First};
-ghost use Rattle.format.specs.Refused.Tree.{NameData, TreeRefusal, treeOrder, Tabled};
-ghost use Rattle.format.specs.Demands.{Refuses, None};
-ghost use Rattle.format.specs.declared.Range.{Range};
-ghost use Rattle.format.specs.declared.Entry.{Entry};
+ghost use Rattle.format.specs.Refused.Tree.{TreeRefusal, treeOrder};
+ghost use Rattle.format.specs.Sentences.{Refuses, AcceptedUnless, TreeEntered};
 ghost use Rattle.named_tree.specs.Named.{Reads};
 
 // The number of a tree that is read whole.
@@ -27,7 +22,8 @@ const ACCEPTED: u32 = 0;
 
 // The tree under a name, and every refusal in order, with a table of zeros.
 fn tree_named(file: &[u8], u: Summary, name: &[u8], table: &mut [u8]) -> Parsed
-    ensures { λ r. ⌜ Reads (now (file .entry)) (now (table .exit)) (length (now (table .entry))) (treeNamed (now (file .entry)) u (now (name .entry)) (roomIn (length (now (table .entry))))) r ⌝ }
+    ensures { λ r. ⌜ Reads (now (file .entry)) (now (table .exit)) (length (now (table .entry)))
+        (treeNamed (now (file .entry)) u (now (name .entry)) (roomIn (length (now (table .entry))))) r ⌝ }
 {
     if bad_summary(file, u) {
         return refuse(table, refusal::SUMMARY);
@@ -41,8 +37,8 @@ pub fn tree(file: &[u8], u: Summary, name: &[u8], table: &mut [u8]) -> u32
     ensures number { λ r. ⌜ r ≡ treeCall (now (file .entry)) u (now (name .entry)) (now (table .entry)) .number ⌝ }
     ensures buffer { λ _. ⌜ now (table .exit) ≡ treeCall (now (file .entry)) u (now (name .entry)) (now (table .entry)) .buffer ⌝ }
     ensures first { λ r. ⌜ First (TreeRefusal (now (file .entry)) u (now (name .entry)) (roomIn (length (now (table .entry))))) treeOrder r ⌝ }
-    ensures accepted { λ r. ⌜ ((r ≡ 0) ↔ None (TreeRefusal (now (file .entry)) u (now (name .entry)) (roomIn (length (now (table .entry)))))) ⌝ }
-    ensures entries { λ r. ⌜ (r ≡ 0 → (p : Range) × (es : List Entry) × NameData (now (file .entry)) u (now (name .entry)) p × Tree (now (file .entry)) p es × Tabled es (length (now (table .entry))) (now (table .exit))) ⌝ }
+    ensures accepted { λ r. ⌜ AcceptedUnless (TreeRefusal (now (file .entry)) u (now (name .entry)) (roomIn (length (now (table .entry))))) r ⌝ }
+    ensures entries { λ r. ⌜ (r ≡ 0 → TreeEntered (now (file .entry)) u (now (name .entry)) (length (now (table .entry))) (now (table .exit))) ⌝ }
     ensures cleared { λ r. ⌜ (Refuses r → now (table .exit) ≡ zeros (length (now (table .entry)))) ⌝ }
 {
     match tree_named(file, u, name, table) {

@@ -73,6 +73,22 @@ fn a_summary_that_is_not_of_its_layout_is_refused_by_every_call() {
 }
 
 #[test]
+fn loops_that_are_not_used_may_hold_anything() {
+    let file = roller(2, 3, 2, 4, 4);
+    let good = opened(&file);
+    let mut odd = good.clone();
+    odd[32..48].fill(LENT);
+    let (mut samples, mut others) = (vec![LENT; 32], vec![LENT; 32]);
+    assert_eq!(raw::plane(&file, &good, [1, 0, 1, 2], &mut samples), 0);
+    assert_eq!(raw::plane(&file, &odd, [1, 0, 1, 2], &mut others), 0);
+    assert_eq!(samples, others);
+    let mut buffer = vec![LENT; 6 * FRAME_BYTES];
+    assert_eq!(raw::register(&file, &odd, &mut buffer), 0);
+    odd[48] = 3;
+    assert_eq!(raw::register(&file, &odd, &mut buffer), 20);
+}
+
+#[test]
 fn later_bytes_are_left_alone_or_cleared() {
     let file = roller(2, 3, 2, 4, 4);
     let summary = opened(&file);

@@ -3,8 +3,8 @@ use mathlib.Core.Path.{refl, sym, _∙_}
 use native.Mathlib.Omega.{arith}
 use lib.ListN.{length}
 use Rattle.format.specs.Bytes.{zeros}
-use Rattle.capi.proofs.OnSummary.{on-some, on-none, said-some, both}
-use Rattle.capi.proofs.Rows.{row-refused, row-recorded}
+use Rattle.capi.proofs.OnSummary.{on-some, on-none, both, said, where-said, unsaid, accepted-said, where-unsaid, refused-unsaid}
+use Rattle.capi.proofs.Rows.{row-first, row-accepted, row-refused, row-recorded}
 use Rattle.capi.specs.OnBytes.{channelRow, channelsOn}
 use borrow.Author.Needs.{needs}
 use Rattle.capi.proofs.nd2_channels.Statement.{statement}
@@ -28,15 +28,29 @@ returns c =
     let p = c .before .before .before .before in
     let i = p .before .before .before .before in
     let l = i .before .summary-from in
-    let e = p .put-row .ensures in
+    let (number, (row, table)) = p .put-row .ensures in
     let a = i .before .before .before .before .before .before .args in
     let k = length (a .row .now) in
-    let o = on-some (zeros k) (λ u. channelRow (a .file .now) u (a .table .now) k) (l .result) (l .ensures) (i .if1 .taken) in
-    let (n, b) = both o (e .0) (e .1 .0) in
-    let u = l .result .summary in
-    let said = said-some (l .result) (l .ensures) (i .if1 .taken) in
-    let recorded = row-recorded (a .file .now) (a .table .now) u k said (e .0) (e .1 .0) in
-    (n, (b, (e .1 .1, (λ r. e .1 .0 ∙ row-refused (a .file .now) (a .table .now) u k (λ z. r (e .0 ∙ z)), recorded))))
+    let s = a .summary .now in
+    let r = l .result in
+    let e = l .ensures in
+    let t = i .if1 .taken in
+    let (n, b) = both (on-some (zeros k) (λ u. channelRow (a .file .now) u (a .table .now) k) r e t) number row in
+    let first = row-first (a .file .now) (a .table .now) (r .summary) k in
+    let accepted = row-accepted (a .file .now) (a .table .now) (r .summary) k in
+    let recorded = λ z. said s r e t _ (row-recorded (a .file .now) (a .table .now) (r .summary) k number row z) in (
+      n,
+      (
+        b,
+        (
+          table,
+          (
+            (λ f. row ∙ row-refused (a .file .now) (a .table .now) (r .summary) k (λ z. f (number ∙ z))),
+            (where-said s r e t _ (rw number first), (unsaid s r e t _, (accepted-said s r e t _ _ (rw number accepted), recorded))),
+          ),
+        ),
+      ),
+    )
 
 clear-requires : tie.Need-clear-requires
 clear-requires c κs = search needs
@@ -59,9 +73,12 @@ returns-2 c =
     let l = i .before .summary-from in
     let a = i .before .before .before .before .before .before .args in
     let k = length (a .row .now) in
-    let o = on-none (zeros k) (λ u. channelRow (a .file .now) u (a .table .now) k) (l .result) (l .ensures) (i .if1 .left) in
-    let (n, b) = both o refl (d .clear .ensures) in
-    (n, (b, (t .clear2 .ensures, (λ _. d .clear .ensures, λ z. absurd (omega arith)))))
+    let s = a .summary .now in
+    let r = l .result in
+    let e = l .ensures in
+    let f = i .if1 .left in
+    let (n, b) = both (on-none (zeros k) (λ u. channelRow (a .file .now) u (a .table .now) k) r e f) refl (d .clear .ensures) in
+    (n, (b, (t .clear2 .ensures, ((λ _. d .clear .ensures), (where-unsaid s r e f _, ((λ _. refl), (refused-unsaid s r e f _, λ z. absurd (omega arith))))))))
 
 pub nd2-channels-spec : {M : Type 1} → statement M
 nd2-channels-spec =

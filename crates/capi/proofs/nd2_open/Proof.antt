@@ -1,9 +1,7 @@
 -- `nd2_open`: the opening, and its summary stored.
 use Prim.Native.Nat.{ℕ}
-use mathlib.Core.Path.{sym, ap, _∙_}
-use mathlib.Core.Option.{some}
-use native.Mathlib.Omega.{arith}
-use Rattle.capi.proofs.OnSummary.{open-long, open-other}
+use mathlib.Core.Path.{sym, _∙_}
+use Rattle.capi.proofs.Opening.{refused-length, opened-stored, refused-opening}
 use borrow.Author.Needs.{needs}
 use Rattle.capi.proofs.nd2_open.Statement.{statement}
 use Rattle.capi.proofs.nd2_open.Tie as tie
@@ -25,7 +23,7 @@ returns c =
     let t = c .before .before in
     let i = t .before .before in
     let s = i .before .before .before .clear in
-    (open-other _ _ _ (λ e. i .if1 .taken (_∙_ {A = ℕ} (s .kept .0) e)), (t .clear2 .ensures, ((λ e. absurd (omega arith)), λ _. s .ensures)))
+    refused-length _ _ _ (λ e. i .if1 .taken (_∙_ {A = ℕ} (s .kept .0) e)) (t .clear2 .ensures) (s .ensures)
 
 open-requires : tie.Need-open-requires
 open-requires c κs = search needs
@@ -48,7 +46,7 @@ returns-2 c =
     let s = l .before .before .before .clear in
     let e = o .«open» .ensures in
     let long = _∙_ {A = ℕ} (sym {A = ℕ} (s .kept .0)) (l .if1 .left) in
-    (e .0 ∙ open-long _ _ _ long, (e .1 .1 .1 .0, ((λ _. p .put-summary .ensures ∙ ap some (e .1 .0)), λ r. absurd (r (i .if2 .taken)))))
+    opened-stored _ _ _ long (e .0) (e .1 .1 .1 .0) (e .1 .0) (i .if2 .taken) (p .put-summary .ensures .0) (p .put-summary .ensures .1)
 
 same-length-5 : tie.Need-same-length-5
 same-length-5 c = search needs
@@ -63,7 +61,7 @@ returns-3 c =
     let s = l .before .before .before .clear in
     let e = o .«open» .ensures in
     let long = _∙_ {A = ℕ} (sym {A = ℕ} (s .kept .0)) (l .if1 .left) in
-    (e .0 ∙ open-long _ _ _ long, (e .1 .1 .1 .0, ((λ z. absurd (c .if2 .left z)), λ _. s .ensures)))
+    refused-opening _ _ _ long (e .0) (e .1 .1 .1 .0) (c .if2 .left) (s .ensures)
 
 pub nd2-open-spec : {M : Type 1} → statement M
 nd2-open-spec =

@@ -1,6 +1,7 @@
 -- `nd2_register`: the register call on the summary that the bytes say.
-use mathlib.Core.Path.{refl}
-use Rattle.capi.proofs.OnSummary.{on-some, on-none, both}
+use mathlib.Core.Path.{_≡_, refl}
+use native.Mathlib.Omega.{arith}
+use Rattle.capi.proofs.OnSummary.{on-some, on-none, both, said, where-said, unsaid, accepted-said, where-unsaid, refused-unsaid}
 use Rattle.capi.specs.OnBytes.{registerOn}
 use borrow.Author.Needs.{needs}
 use Rattle.capi.proofs.nd2_register.Statement.{statement}
@@ -21,14 +22,24 @@ returns c =
     let p = c .before .before in
     let i = p .before .before .before in
     let l = i .before .summary-from in
-    let e = p .register .ensures in
-    let (n, b) = both (on-some _ _ (l .result) (l .ensures) (i .if1 .taken)) (e .0) (e .1 .0) in (n, (b, e .1 .1 .1 .1 .1))
+    let (number, (buffer, (first, (accepted, (registered, untouched))))) = p .register .ensures in
+    let s = i .before .before .before .before .before .args .summary .now in
+    let r = l .result in
+    let e = l .ensures in
+    let k = i .if1 .taken in
+    let (n, b) = both (on-some _ _ r e k) number buffer in
+    (n, (b, (untouched, (where-said s r e k _ first, (unsaid s r e k _, (accepted-said s r e k _ _ accepted, λ z. said s r e k _ (registered z)))))))
 
 returns-2 : tie.Need-returns-2
 unfolding registerOn
 returns-2 c =
     let l = c .before .summary-from in
-    let (n, b) = both (on-none _ _ (l .result) (l .ensures) (c .if1 .left)) refl refl in (n, (b, λ _. refl))
+    let s = c .before .before .before .before .before .args .summary .now in
+    let r = l .result in
+    let e = l .ensures in
+    let k = c .if1 .left in
+    let (n, b) = both (on-none _ _ r e k) refl refl in
+    (n, (b, ((λ _. refl), (where-unsaid s r e k _, ((λ _. refl), (refused-unsaid s r e k _, λ z. absurd (omega arith)))))))
 
 pub nd2-register-spec : {M : Type 1} → statement M
 nd2-register-spec =

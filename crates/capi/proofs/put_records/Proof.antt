@@ -4,12 +4,13 @@ use mathlib.Core.Path.{_≡_, refl, _∙_}
 use native.Mathlib.Omega.{arith}
 use lib.ListN.{length, take}
 use Rattle.format.specs.Bytes.{over}
-use Rattle.format.specs.Channels.{fitted}
+use Rattle.format.specs.Channels.{emptyChannel, fitted}
 use Rattle.channels.specs.Ahead.{ahead}
-use Rattle.format.proofs.ChannelRecords.{fitted-length}
 use Rattle.channels.proofs.Rows.{On, on-first, on-next, on-row}
-use Rattle.layout.specs.Layout.{channelRowBytes}
-use Rattle.capi.proofs.Rows.{none-stored, next-stored, all-stored}
+use Rattle.layout.proofs.Each.{none-stored, next-stored, all-stored}
+use Rattle.layout.specs.Layout.{channelBytes, channelRowBytes}
+use Rattle.capi.proofs.Rows.{channel-length}
+use Rattle.format.proofs.ChannelRecords.{fitted-length}
 use Rattle.capi.proofs.put_records.Statement.{statement}
 use Rattle.capi.proofs.put_records.Tie as tie
 
@@ -21,7 +22,7 @@ abbrev μ-loop : tie.MeasureT-loop
 μ-loop file table row₀ count p₀ k₀ row p k = count - k
 
 loop-holds : tie.Need-loop-holds Inv-loop μ-loop
-loop-holds c = (on-first _ _ _ (c .before .before .before .pre .0), none-stored _, refl, omega arith)
+loop-holds c = (on-first _ _ _ (c .before .before .before .pre .0), none-stored channelBytes _, refl, omega arith)
 
 mul-put-channel : tie.Need-mul-put-channel Inv-loop μ-loop
 mul-put-channel c =
@@ -54,8 +55,9 @@ loop-again c =
     let cs = fitted (a .args .count) (ahead (a .args .file .now) (a .args .table .now) (a .args .first)) in
     let n = fitted-length (a .args .count) (ahead (a .args .file .now) (a .args .table .now) (a .args .first)) in (
       on-next _ _ _ (l .loop .inv .0) (c .next-plane .ensures),
-      w .put-channel .ensures ∙ next-stored cs (a .args .row .now) (l .loop .row) (l .loop .k) _ (l .loop .inv .1) (omega (arith, l .loop, n)) (omega (arith, n, a .pre))
-          (on-row _ _ _ (l .loop .inv .0) (a .args .count) (l .loop .k) refl (omega (arith, l .loop))),
+      w .put-channel .ensures
+          ∙ next-stored channelBytes 56 channel-length cs (a .args .row .now) (l .loop .row) (l .loop .k) _ emptyChannel (l .loop .inv .1) (omega (arith, l .loop, n))
+          (omega (arith, n, a .pre)) (on-row _ _ _ (l .loop .inv .0) (a .args .count) (l .loop .k) refl (omega (arith, l .loop))),
       w .put-channel .kept .0 ∙ l .loop .inv .2,
       omega (arith, l .loop),
     )
@@ -67,8 +69,9 @@ returns : tie.Need-returns Inv-loop μ-loop
 returns c =
     let l = c .before in
     let a = l .before .before .before .before in
-    all-stored (fitted (a .args .count) (ahead (a .args .file .now) (a .args .table .now) (a .args .first))) (a .args .row .now) (l .loop .row) (l .loop .k) (l .loop .inv .1)
-    (rw (fitted-length (a .args .count) (ahead (a .args .file .now) (a .args .table .now) (a .args .first))) (omega (arith, l .loop)))
+    let ps = ahead (a .args .file .now) (a .args .table .now) (a .args .first) in
+    all-stored channelBytes (fitted (a .args .count) ps) (a .args .row .now) (l .loop .row) (l .loop .k) (l .loop .inv .1)
+    (rw (fitted-length (a .args .count) ps) (omega (arith, l .loop)))
 
 pub put-records-spec : {M : Type 1} → statement M
 put-records-spec =

@@ -2,7 +2,7 @@
 use Prim.Native.Nat.{ℕ}
 use mathlib.Core.Path.{_≡_, _∙_}
 use lib.ListN.{length, length-map}
-use Rattle.layout.proofs.Laws.{stored-said}
+use Rattle.layout.proofs.Laws.{stored-bytes, stored-said}
 use borrow.Author.Needs.{needs}
 use Rattle.layout.proofs.put_summary.Statement.{statement}
 use Rattle.layout.proofs.put_summary.Tie as tie
@@ -36,14 +36,15 @@ returns c =
     let s1 = s2 .before .before .before .before in
     let w = s1 .before .before .before .before in
     let st = w .before .before .before .before in
-    let (nx, bx, ex, qx) = s1 .put-single .ensures in
-    let (ny, by, ey, qy) = s2 .put-single2 .ensures in
-    let (nz, bz, ez, qz) = s3 .put-single3 .ensures in
+    let (qx, (bx, ex)) = s1 .put-single .ensures in
+    let (qy, (by, ey)) = s2 .put-single2 .ensures in
+    let (qz, (bz, ez)) = s3 .put-single3 .ensures in
     let u = st .args .u in
     let full : length (u .loops) ≡ 3 = rw length-map at (st .good .1 .0 .1 .1 .0 .1 .0 .1) in
-    let h = rw (w .before .words-of .ensures) at (w .put-words .ensures) in
+    let (bytes, words) = rw (w .before .words-of .ensures) at (w .put-words .ensures) in
     let long : length (w .put-words .last .0) ≡ 144 = _∙_ {A = ℕ} (w .put-words .kept .0) (st .pre) in
-    rw (p .put4 .ensures, qz, qy, qx) (stored-said u (w .put-words .last .0) nx ny nz long full h bx by bz ex ey ez)
+    rw (p .put4 .ensures, qz, qy, qx)
+    (stored-bytes u (st .args .b .now) (st .pre) bytes, stored-said u (w .put-words .last .0) _ _ _ long full words bx by bz ex ey ez)
 
 pub put-summary-spec : {M : Type 1} → statement M
 put-summary-spec =

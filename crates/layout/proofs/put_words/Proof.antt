@@ -1,23 +1,27 @@
 -- `put_words`: the words before `i` are stored.
 use Prim.Native.Nat.{ℕ, _-_, _≤_, _<_}
-use mathlib.Core.Path.{_≡_, refl}
+use mathlib.Core.Path.{_≡_, refl, _∙_}
 use native.Mathlib.Omega.{arith}
-use lib.ListN.{length, getD}
+use lib.ListN.{length, getD, take}
 use lib.Seq.{length-sets}
 use borrow.Author.Needs.{needs}
+use Rattle.format.proofs.Bytes.{leBytes-length}
+use Rattle.format.specs.Bytes.{leBytes, over}
+use Rattle.layout.proofs.Each.{none-stored, next-stored, all-stored}
 use Rattle.layout.proofs.Laws.{next-word}
-use Rattle.layout.specs.Layout.{word}
+use Rattle.layout.specs.Layout.{each, word}
 use Rattle.layout.proofs.put_words.Statement.{statement}
 use Rattle.layout.proofs.put_words.Tie as tie
 
 abbrev Inv-loop : tie.InvT-loop
-Inv-loop b₀ w i₀ b i = ((k : ℕ) → k < i → word b k ≡ getD w k 0) × (length b ≡ length b₀) × (i ≤ 16)
+Inv-loop b₀ w i₀ b i =
+    ((k : ℕ) → k < i → word b k ≡ getD w k 0) × (length b ≡ length b₀) × (i ≤ 16) × (b ≡ over (each (leBytes 8) (take i w)) b₀)
 
 abbrev μ-loop : tie.MeasureT-loop
 μ-loop b₀ w i₀ b i = 16 - i
 
 loop-holds : tie.Need-loop-holds Inv-loop μ-loop
-loop-holds c = ((λ k h. absurd (omega arith)), refl, omega arith)
+loop-holds c = ((λ k h. absurd (omega arith)), refl, omega arith, none-stored (leBytes 8) _)
 
 mul-put8 : tie.Need-mul-put8 Inv-loop μ-loop
 mul-put8 c = omega arith
@@ -44,17 +48,24 @@ loop-again : tie.Need-loop-again Inv-loop μ-loop
 loop-again c =
     let p = c .before .before in
     let n = p .before .bounded .ensures in
-    let l = p .before .before .before .before .loop in (
-      rw (p .put8 .ensures) (next-word (l .b) (c .before .before .before .before .before .before .before .before .args .t2) (l .i) _ (omega (arith, l)) (n .1) (n .0) (l .inv .0)),
+    let l = p .before .before .before .before .loop in
+    let st = c .before .before .before .before .before .before .before .before in
+    let w = st .args .t2 in (
+      rw (p .put8 .ensures) (next-word (l .b) w (l .i) _ (omega (arith, l)) (n .1) (n .0) (l .inv .0)),
       rw (p .put8 .ensures, length-sets) (l .inv .1),
       omega (arith, l),
+      p .put8 .ensures
+          ∙ next-stored (leBytes 8) 8 (leBytes-length 8) w (st .args .b .now) (l .b) (l .i) _ 0 (l .inv .3) (omega (arith, l, st .good))
+          (omega (arith, st .good, st .pre)) (n .0),
     )
 
 same-length : tie.Need-same-length Inv-loop μ-loop
 same-length c = c .before .loop .inv .1
 
 returns : tie.Need-returns Inv-loop μ-loop
-returns c k h = c .before .loop .inv .0 k (omega arith)
+returns c =
+    let l = c .before .loop in
+    (all-stored (leBytes 8) _ _ (l .b) (l .i) (l .inv .3) (omega (arith, l, c .before .before .before .good)), λ k h. l .inv .0 k (omega arith))
 
 pub put-words-spec : {M : Type 1} → statement M
 put-words-spec =

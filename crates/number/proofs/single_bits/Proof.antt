@@ -1,4 +1,4 @@
--- `single_bits` gives the pattern of every value: for the NaN, one that is written out.
+-- `single_bits` gives the pattern of every value: for the NaN, one of its own.
 use mathlib.Core.Path.{refl, sym, subst}
 use lib.Dec.{T}
 use lib.Ieee.{binary32, fits, ofBits, toBits}
@@ -15,10 +15,10 @@ float-to-bits-result c = no-nan (c .before .args .x) (c .if1 .left)
 
 returns : tie.Need-returns
 unfolding ofBits toBits
-returns c = let h = differs (c .before .args .x) (c .if1 .taken) in (sym h, rw h refl)
+returns c = let e = differs (c .before .args .x) (c .if1 .taken) in (rw e refl, sym e)
 
 returns-2 : tie.Need-returns-2
-returns-2 c = (ofBits-toBits binary32 (c .before .args .x) (held (c .before)), refl)
+returns-2 c = (refl, ofBits-toBits binary32 (c .before .args .x) (held (c .before)))
 
 pub single-bits-spec : {M : Type 1} → statement M
 single-bits-spec = tie.close (tie.spec float-to-bits-result returns returns-2)

@@ -1,0 +1,63 @@
+-- Sentences that the demands and the calls' own contracts both say, each under a name.
+use Prim.Native.Nat.{ℕ}
+use mathlib.Core.Path.{_≡_}
+use mathlib.Core.Logic.{_↔_}
+use mathlib.Core.List.{List}
+use Rattle.format.specs.Chunks.{dataIn}
+use Rattle.format.specs.Frames.{seqIndex}
+use Rattle.format.specs.Summary.{loopsOf}
+use Rattle.format.specs.Grammar.Trees.{Tree}
+use Rattle.format.specs.Grammar.File.{Joined}
+use Rattle.format.specs.Grammar.Table.{Enough}
+use Rattle.format.specs.Refused.Plane.{Within, FrameData, PlaneRefusal, Copied}
+use Rattle.format.specs.Refused.Tree.{NameData, Tabled}
+use Rattle.format.specs.declared.Range.{Range}
+use Rattle.format.specs.declared.Entry.{Entry}
+use Rattle.format.specs.declared.Loop.{Loop}
+use Rattle.format.specs.declared.Summary.{Summary}
+
+-- ---- refused and accepted
+
+-- a call whose number is n is refused
+abbrev pub Refuses : ℕ → Type 0
+Refuses n = n ≡ 0 → ⊥
+
+-- none of these refusals holds
+abbrev pub None : (ℕ → Type 0) → Type 0
+None Refusal = (n : ℕ) → Refusal n → ⊥
+
+-- a call whose number is n is accepted exactly when none of these refusals holds
+abbrev pub AcceptedUnless : (ℕ → Type 0) → ℕ → Type 0
+AcceptedUnless Refusal n = (n ≡ 0) ↔ None Refusal
+
+-- ---- opening
+
+-- an opening whose number is n, with a table of `room` entries, accepts exactly when the grammar joins the file to a summary and the table has entries enough
+abbrev pub OpensExactly : List ℕ → ℕ → ℕ → Type 0
+OpensExactly file room n = (n ≡ 0) ↔ ((u : Summary) × Joined file u × Enough file room)
+
+-- "different in-range triples (scene, t, z) have different n"
+abbrev pub Different : List Loop → Type 0
+Different ls =
+    (scene t z scene′ t′ z′ : ℕ) → Within ls scene t z → Within ls scene′ t′ z′ → seqIndex ls scene t z ≡ seqIndex ls scene′ t′ z′
+    → (scene ≡ scene′) × (t ≡ t′) × (z ≡ z′)
+
+-- ---- what an accepted call leaves
+
+-- a plane, in the samples: those of component c in the data of the frame that the point's number names; later bytes as before
+abbrev pub PlaneCopied : List ℕ → Summary → ℕ → ℕ → ℕ → ℕ → List ℕ → List ℕ → Type 0
+PlaneCopied file u scene t c z before after =
+    (r : Range) × FrameData file u (seqIndex (loopsOf u) scene t z) r × Copied u c (dataIn file r) before after
+
+-- a tree, in a table of n bytes: the entries of the records of the chunk that the map has under the name, and zeros behind them
+abbrev pub TreeEntered : List ℕ → Summary → List ℕ → ℕ → List ℕ → Type 0
+TreeEntered file u name n after =
+    (r : Range) × (es : List Entry) × NameData file u name r × Tree file r es × Tabled es n after
+
+-- ---- a plane read from the file alone
+
+-- a reading whose number is n accepts exactly when the grammar joins the file to a summary, the table has entries enough, and no refusal of the plane holds with
+-- that summary
+abbrev pub ReadsExactly : List ℕ → ℕ → ℕ → ℕ → ℕ → ℕ → List ℕ → ℕ → Type 0
+ReadsExactly file room scene t c z samples n =
+    (n ≡ 0) ↔ ((u : Summary) × Joined file u × Enough file room × None (PlaneRefusal file u scene t c z samples))
