@@ -1,4 +1,4 @@
--- Sentences that the demands and the calls' own contracts both say, each under a name.
+-- Sentences that the demands and the calls' own contracts are made of, each under a name.
 use Prim.Native.Nat.{ℕ}
 use mathlib.Core.Path.{_≡_}
 use mathlib.Core.Logic.{_↔_}
@@ -56,8 +56,8 @@ TreeEntered file u name n after =
 
 -- ---- a plane read from the file alone
 
--- a reading whose number is n accepts exactly when the grammar joins the file to a summary, the table has entries enough, and no refusal of the plane holds with
--- that summary
+-- a reading whose number is n accepts exactly when the grammar joins the file to a summary, the table has entries enough, and with that summary no refusal
+-- of the plane holds
 abbrev pub ReadsExactly : List ℕ → ℕ → ℕ → ℕ → ℕ → ℕ → List ℕ → ℕ → Type 0
 ReadsExactly file room scene t c z samples n =
     (n ≡ 0) ↔ ((u : Summary) × Joined file u × Enough file room × None (PlaneRefusal file u scene t c z samples))
