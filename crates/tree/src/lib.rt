@@ -188,10 +188,10 @@ fn parse_clx_value(d: &[u8], base: u64, table: &mut [u8], n: Name, c: Cursor, p:
 }
 
 // A refusal, and a table of zeros.
-pub fn refuse(table: &mut [u8], n: u32) -> Parsed
-    ensures { λ r. ⌜ (r ≡ Refused n) × (now (table .exit) ≡ zeros (length (now (table .entry)))) ⌝ }
+pub fn refuse(lent: &mut [u8], n: u32) -> Parsed
+    ensures { λ r. ⌜ (r ≡ Refused n) × (now (lent .exit) ≡ zeros (length (now (lent .entry)))) ⌝ }
 {
-    clear(table);
+    clear(lent);
     Parsed::Refused(n)
 }
 
