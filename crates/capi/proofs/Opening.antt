@@ -12,10 +12,12 @@ use Rattle.format.specs.Trees.{roomIn}
 use Rattle.format.specs.Summary.{loopsOf}
 use Rattle.format.specs.Calls.Open.{openCall}
 use Rattle.format.specs.Grammar.File.{Joined}
+use Rattle.format.specs.Refused.Order.{FirstAt}
+use Rattle.format.specs.Refused.Open.{OpenRefusal, openOrder}
 use Rattle.format.specs.Refused.Summary.{Sound}
 use Rattle.format.specs.Sentences.{Refuses, OpensExactly, Different}
 use Rattle.format.specs.declared.Summary.{Summary}
-use Rattle.format.proofs.Demands.{third}
+use Rattle.format.proofs.Demands.{first, third}
 use Rattle.layout.specs.Layout.{summaryBytes, summaryFrom}
 use Rattle.capi.specs.OnBytes.{openOn}
 use Rattle.capi.specs.Said.{Said}
@@ -31,13 +33,15 @@ module _ (file table b : List ℕ) where
       (n ≡ openOn file table b) × ((left ≡ zeros (length table)) × ((n ≡ 0 → out ≡ summaryBytes (openCall file table .summary))
       × ((Refuses n → out ≡ zeros (length b)) × ((n ≡ 0 → summaryFrom out ≡ some (openCall file table .summary))
       × ((length b ≡ 144 → OpensExactly file (roomIn (length table)) n) × (((length b ≡ 144 → ⊥) → n ≡ 20)
-      × ((n ≡ 0 → Said out (Joined file)) × ((n ≡ 0 → Said out (Sound file)) × (n ≡ 0 → Said out (λ u. Different (loopsOf u)))))))))))
+      × ((n ≡ 0 → Said out (Joined file)) × ((n ≡ 0 → Said out (Sound file)) × ((n ≡ 0 → Said out (λ u. Different (loopsOf u)))
+      × (length b ≡ 144 → FirstAt (OpenRefusal file (roomIn (length table))) openOrder n))))))))))
 
   pub refused-length : {left out : List ℕ} → (length b ≡ 144 → ⊥) → left ≡ zeros (length table) → out ≡ zeros (length b) → Promised why.summary left out
   unfolding openOn
   refused-length f l z =
       let no : Refuses why.summary = λ q. omega arith in
-      (rw (ne-eqb (length b) 144 f) refl, (l, (never no, ((λ _. z), (never no, ((λ q. absurd (f q)), ((λ _. refl), (never no, (never no, never no)))))))))
+      let other : {A : Type 0} → length b ≡ 144 → A = λ q. absurd (f q) in
+      (rw (ne-eqb (length b) 144 f) refl, (l, (never no, ((λ _. z), (never no, (other, ((λ _. refl), (never no, (never no, (never no, other))))))))))
 
   -- the bytes have a summary's length, so that the number is the opening's
   module _ (long : length b ≡ 144) {n : ℕ} (e : n ≡ openCall file table .number) {left : List ℕ} (l : left ≡ zeros (length table)) where
@@ -47,6 +51,9 @@ module _ (file table b : List ℕ) where
 
     exactly : OpensExactly file (roomIn (length table)) n
     exactly = rw e (third .opens-exactly file table)
+
+    in-order : FirstAt (OpenRefusal file (roomIn (length table))) openOrder n
+    in-order = rw e (first .open-number file table)
 
     pub opened-stored : {u : Summary} {out : List ℕ} → u ≡ openCall file table .summary → n ≡ 0 → out ≡ summaryBytes u → summaryFrom out ≡ some u
         → Promised n left out
@@ -69,7 +76,7 @@ module _ (file table b : List ℕ) where
                       (λ f. absurd (f long)),
                       (
                         (λ _. (_, said, third .returns-theirs file table o)),
-                        ((λ _. (_, said, sound)), λ _. (_, said, third .frames-different file _ sound)),
+                        ((λ _. (_, said, sound)), ((λ _. (_, said, third .frames-different file _ sound)), λ _. in-order)),
                       ),
                     ),
                   ),
@@ -81,4 +88,4 @@ module _ (file table b : List ℕ) where
 
     pub refused-opening : {out : List ℕ} → Refuses n → out ≡ zeros (length b) → Promised n left out
     refused-opening f z =
-        (numbered, (l, (never f, ((λ _. z), (never f, ((λ _. exactly), ((λ g. absurd (g long)), (never f, (never f, never f)))))))))
+        (numbered, (l, (never f, ((λ _. z), (never f, ((λ _. exactly), ((λ g. absurd (g long)), (never f, (never f, (never f, λ _. in-order))))))))))

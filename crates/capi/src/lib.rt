@@ -24,7 +24,8 @@ ghost use Rattle.format.specs.Channels.{fitted};
 ghost use Rattle.format.specs.Summary.{loopsOf};
 ghost use Rattle.format.specs.Calls.Open.{openCall};
 ghost use Rattle.format.specs.Grammar.File.{Joined};
-ghost use Rattle.format.specs.Refused.Order.{First};
+ghost use Rattle.format.specs.Refused.Order.{First, FirstAt};
+ghost use Rattle.format.specs.Refused.Open.{OpenRefusal, openOrder};
 ghost use Rattle.format.specs.Refused.Summary.{Sound};
 ghost use Rattle.format.specs.Refused.Plane.{PlaneRefusal, planeOrder};
 ghost use Rattle.format.specs.Refused.Tree.{TreeRefusal, treeOrder};
@@ -50,6 +51,8 @@ pub extern "C" fn nd2_open(file: &[u8], table: &mut [u8], summary: &mut [u8]) ->
     ensures theirs { λ r. ⌜ (r ≡ 0 → Said (now (summary .exit)) (Joined (now (file .entry)))) ⌝ }
     ensures sound { λ r. ⌜ (r ≡ 0 → Said (now (summary .exit)) (Sound (now (file .entry)))) ⌝ }
     ensures different { λ r. ⌜ (r ≡ 0 → Said (now (summary .exit)) (λ u. Different (loopsOf u))) ⌝ }
+    ensures first { λ r. ⌜ (length (now (summary .entry)) ≡ 144
+        → FirstAt (OpenRefusal (now (file .entry)) (roomIn (length (now (table .entry))))) openOrder r) ⌝ }
 {
     clear(summary);
     if summary.len() != SUMMARY_BYTES {

@@ -16,7 +16,8 @@ pub enum Width {
 
 // The number at a place of a slice and the cursor after it, or too few bytes for one.
 pub fn word_in(slice: &[u8], at: usize, width: Width) -> Word
-    ensures { λ r. ⌜ (wordOf r ≡ wordAt (bytesOf width) (now (slice .entry)) (to at (length (now (slice .entry))))) × GoodWord (now (slice .entry)) (to at (length (now (slice .entry)))) (bytesOf width) r ⌝ }
+    ensures { λ r. ⌜ (wordOf r ≡ wordAt (bytesOf width) (now (slice .entry)) (to at (length (now (slice .entry)))))
+        × GoodWord (now (slice .entry)) (to at (length (now (slice .entry)))) (bytesOf width) r ⌝ }
 {
     let end = slice.len();
     if end < at {
@@ -57,28 +58,32 @@ impl<'a> ChunkCursor<'a> {
 
     // The number in one byte at the cursor, or too few bytes for one.
     pub fn read_u8(self) -> Word
-        ensures { λ r. ⌜ (wordOf r ≡ wordAt 1 (now (self .entry .slice)) (partOf (self .entry))) × GoodWord (now (self .entry .slice)) (partOf (self .entry)) 1 r ⌝ }
+        ensures { λ r. ⌜ (wordOf r ≡ wordAt 1 (now (self .entry .slice)) (partOf (self .entry)))
+            × GoodWord (now (self .entry .slice)) (partOf (self .entry)) 1 r ⌝ }
     {
         word_in(self.slice, self.at, Width::One)
     }
 
     // The number in two bytes.
     pub fn read_u16(self) -> Word
-        ensures { λ r. ⌜ (wordOf r ≡ wordAt 2 (now (self .entry .slice)) (partOf (self .entry))) × GoodWord (now (self .entry .slice)) (partOf (self .entry)) 2 r ⌝ }
+        ensures { λ r. ⌜ (wordOf r ≡ wordAt 2 (now (self .entry .slice)) (partOf (self .entry)))
+            × GoodWord (now (self .entry .slice)) (partOf (self .entry)) 2 r ⌝ }
     {
         word_in(self.slice, self.at, Width::Two)
     }
 
     // The number in four bytes.
     pub fn read_u32(self) -> Word
-        ensures { λ r. ⌜ (wordOf r ≡ wordAt 4 (now (self .entry .slice)) (partOf (self .entry))) × GoodWord (now (self .entry .slice)) (partOf (self .entry)) 4 r ⌝ }
+        ensures { λ r. ⌜ (wordOf r ≡ wordAt 4 (now (self .entry .slice)) (partOf (self .entry)))
+            × GoodWord (now (self .entry .slice)) (partOf (self .entry)) 4 r ⌝ }
     {
         word_in(self.slice, self.at, Width::Four)
     }
 
     // The number in eight bytes.
     pub fn read_u64(self) -> Word
-        ensures { λ r. ⌜ (wordOf r ≡ wordAt 8 (now (self .entry .slice)) (partOf (self .entry))) × GoodWord (now (self .entry .slice)) (partOf (self .entry)) 8 r ⌝ }
+        ensures { λ r. ⌜ (wordOf r ≡ wordAt 8 (now (self .entry .slice)) (partOf (self .entry)))
+            × GoodWord (now (self .entry .slice)) (partOf (self .entry)) 8 r ⌝ }
     {
         word_in(self.slice, self.at, Width::Eight)
     }

@@ -129,7 +129,8 @@ impl Cursor {
     // A value that is no level.
     pub fn read_leaf(self, d: &[u8], kind: u64) -> Leaf
         requires { ⌜ Within self (now d) × (kind ≡ 11 → ⊥) ⌝ }
-        ensures { λ r. ⌜ ((children : Children) (start : ℕ) → LeafRead (now (d .entry)) (self .end) (value (now (d .entry)) children kind start (self .at) (self .end)) r) ⌝ }
+        ensures { λ r. ⌜ ((children : Children) (start : ℕ)
+            → LeafRead (now (d .entry)) (self .end) (value (now (d .entry)) children kind start (self .at) (self .end)) r) ⌝ }
     {
         if kind == clx_type::BYTEARRAY {
             return self.read_clx_bytes(d);

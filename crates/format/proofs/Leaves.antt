@@ -11,7 +11,8 @@ use Rattle.format.proofs.Tests.{cond-by}
 use Rattle.format.specs.Bytes.{leAt}
 use Rattle.format.specs.Values.{Value, flag, whole, leaf, twosComplement}
 use Rattle.format.specs.Grammar.Trees.{Kind, of-value, of-level}
-use Rattle.format.specs.Grammar.Values.{Complement, positive, negative, beyond, LeafOf, of-unset, of-set, of-i32, of-u32, of-i64, of-u64, of-f64, of-pointer, of-text, of-bytes}
+use Rattle.format.specs.Grammar.Values.{Complement, positive, negative, beyond, LeafOf, of-unset, of-set, of-i32, of-u32, of-i64, of-u64}
+use Rattle.format.specs.Grammar.Values.{of-f64, of-pointer, of-text, of-bytes}
 use Rattle.format.specs.declared.Entry.{Entry}
 
 -- ---- two's complement, of w bits

@@ -22,7 +22,8 @@ use Rattle.format.specs.Loops.{Built, append, walkAll, walkOne, walk, ax
 use Rattle.format.specs.Grammar.Lists.{All, more}
 use Rattle.format.specs.Grammar.Values.{Field}
 use Rattle.format.specs.Grammar.Loops.{LoopAt, Below, Walks, done, stops, spectral, appends, Free}
-use Rattle.format.specs.Refused.Loops.{type-negative, type-other, count-over, WalkFaults, here, below, behind-stop, behind-loop, Misjudged, custom, twice, later}
+use Rattle.format.specs.Refused.Loops.{type-negative, type-other, count-over, WalkFaults, here, below, behind-stop, behind-loop, Misjudged}
+use Rattle.format.specs.Refused.Loops.{custom, twice, later}
 use Rattle.format.specs.declared.Entry.{Entry}
 use Rattle.format.specs.declared.Axis.{Axis}
 use Rattle.format.specs.declared.Loop.{Loop}

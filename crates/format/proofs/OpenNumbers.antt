@@ -46,8 +46,12 @@ use Rattle.format.specs.Grammar.Numbers.{Signed}
 use Rattle.format.specs.Grammar.Attributes.{Bits, Shape, Sized}
 use Rattle.format.specs.Grammar.Table.{TreeRead, attributes as attributesRead, experiment as experimentRead, calibration as calibrationRead}
 use Rattle.format.specs.Refused.Order.{FirstAt}
-use Rattle.format.specs.Refused.Open.{Needed, attributes, experiment, needed, Stage, first-mark, tail, map-chunk, map, entry, chunk, table, fault, sizes, compression, bits, shape, experiment-level, walk, judged, plane, calibration, openOrder, MapChunk, ChunkAt, TreeAt, TooMany, SizesAt, ExperimentAt, OpenRefusal}
-use Rattle.format.specs.Refused.Open.{no-mark, old-mark, other-mark, no-tail, wrong-tail, no-map-chunk, no-map, no-entry, no-chunk, table-short, tree-fault, no-sizes, compressed, wrong-bits, wrong-shape, no-level, walk-fault, misjudged, plane-over, calibration-short}
+use Rattle.format.specs.Refused.Open.{Needed, attributes, experiment, needed, Stage, first-mark, tail, map-chunk, map, entry, chunk, table}
+use Rattle.format.specs.Refused.Open.{fault, sizes, compression, bits, shape, experiment-level, walk, judged, plane, calibration, openOrder}
+use Rattle.format.specs.Refused.Open.{MapChunk, ChunkAt, TreeAt, TooMany, SizesAt, ExperimentAt, OpenRefusal}
+use Rattle.format.specs.Refused.Open.{no-mark, old-mark, other-mark, no-tail, wrong-tail, no-map-chunk, no-map, no-entry, no-chunk}
+use Rattle.format.specs.Refused.Open.{table-short, tree-fault, no-sizes, compressed, wrong-bits, wrong-shape, no-level, walk-fault}
+use Rattle.format.specs.Refused.Open.{misjudged, plane-over, calibration-short}
 use Rattle.format.specs.declared.Range.{Range}
 use Rattle.format.specs.declared.Entry.{Entry}
 use Rattle.format.specs.declared.Attributes.{Attributes}

@@ -22,7 +22,9 @@ use Rattle.format.specs.Grammar.Map.{Mapped, Named}
 use Rattle.format.specs.Grammar.Attributes.{Sized}
 use Rattle.format.specs.Grammar.Loops.{Walks}
 use Rattle.format.specs.Refused.Loops.{WalkFaults}
-use Rattle.format.specs.Refused.Open.{ChunkAt, TreeAt, SizesAt, ExperimentAt, Stage, OpenRefusal, no-mark, old-mark, other-mark, no-tail, wrong-tail, no-map-chunk, no-map, no-entry, no-chunk, table-short, tree-fault, no-sizes, compressed, wrong-bits, wrong-shape, no-level, walk-fault, misjudged, plane-over, calibration-short}
+use Rattle.format.specs.Refused.Open.{ChunkAt, TreeAt, SizesAt, ExperimentAt, Stage, OpenRefusal, no-mark, old-mark, other-mark, no-tail}
+use Rattle.format.specs.Refused.Open.{wrong-tail, no-map-chunk, no-map, no-entry, no-chunk, table-short, tree-fault, no-sizes, compressed}
+use Rattle.format.specs.Refused.Open.{wrong-bits, wrong-shape, no-level, walk-fault, misjudged, plane-over, calibration-short}
 use Rattle.format.specs.declared.Range.{Range}
 use Rattle.format.specs.declared.Entry.{Entry}
 use Rattle.format.specs.declared.Attributes.{Attributes}

@@ -199,7 +199,8 @@ pub fn refuse(lent: &mut [u8], n: u32) -> Parsed
 pub fn parse_clx_variant(data: &[u8], base: u64, table: &mut [u8]) -> Parsed
     requires { ⌜ base + length (now «data») < 2 ^ 64 ⌝ }
     ensures answer { λ r. ⌜ parsedIn (now (table .exit)) r ≡ treeInto (now («data» .entry)) base (length (now (table .entry))) ⌝ }
-    ensures table { λ _. ⌜ now (table .exit) ≡ treeBy (length (now (table .entry))) (treeInto (now («data» .entry)) base (length (now (table .entry)))) .buffer ⌝ }
+    ensures table { λ _. ⌜ now (table .exit)
+        ≡ treeBy (length (now (table .entry))) (treeInto (now («data» .entry)) base (length (now (table .entry)))) .buffer ⌝ }
     ensures fits { λ r. ⌜ Fits (length (now (table .entry))) r ⌝ }
 {
     clear(table);

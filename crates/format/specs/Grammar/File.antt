@@ -25,7 +25,8 @@ use Rattle.format.specs.Grammar.Attributes.{AttributesOf}
 use Rattle.format.specs.Grammar.Loops.{LoopsOf}
 use Rattle.format.specs.Grammar.Calibration.{Steps, Calibrated}
 
--- u is the summary of a map's data m, attributes a, loops ls and a calibration c, field by field. Of its three places for loops, those that are not used have the axis T and the count 0.
+-- u is the summary of a map's data m, attributes a, loops ls and a calibration c, field by field. Of its three places for loops, those that are not used
+-- have the axis T and the count 0.
 pub record SummaryOf (m : Range) (a : Attributes) (ls : List Loop) (c : Calibration) (u : Summary) : Type 0 where
   pub width : u .width ≡ a .width
   pub stride : u .stride ≡ a .stride
