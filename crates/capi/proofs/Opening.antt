@@ -40,8 +40,8 @@ module _ (file table b : List ℕ) where
   unfolding openOn
   refused-length f l z =
       let no : Refuses why.summary = λ q. omega arith in
-      let other : {A : Type 0} → length b ≡ 144 → A = λ q. absurd (f q) in
-      (rw (ne-eqb (length b) 144 f) refl, (l, (never no, ((λ _. z), (never no, (other, ((λ _. refl), (never no, (never no, (never no, other))))))))))
+      let number : why.summary ≡ openOn file table b = rw (ne-eqb (length b) 144 f) refl in
+      (number, (l, (never no, ((λ _. z), (never no, ((λ q. absurd (f q)), ((λ _. refl), (never no, (never no, (never no, λ q. absurd (f q)))))))))))
 
   -- the bytes have a summary's length, so that the number is the opening's
   module _ (long : length b ≡ 144) {n : ℕ} (e : n ≡ openCall file table .number) {left : List ℕ} (l : left ≡ zeros (length table)) where

@@ -38,7 +38,7 @@ returns c =
     let (n, b) = both (on-some (zeros k) (λ u. channelRow (a .file .now) u (a .table .now) k) r e t) number row in
     let first = row-first (a .file .now) (a .table .now) (r .summary) k in
     let accepted = row-accepted (a .file .now) (a .table .now) (r .summary) k in
-    let recorded = λ z. said s r e t _ (row-recorded (a .file .now) (a .table .now) (r .summary) k number row z) in (
+    let recorded = row-recorded (a .file .now) (a .table .now) (r .summary) k number row in (
       n,
       (
         b,
@@ -46,7 +46,7 @@ returns c =
           table,
           (
             (λ f. row ∙ row-refused (a .file .now) (a .table .now) (r .summary) k (λ z. f (number ∙ z))),
-            (where-said s r e t _ (rw number first), (unsaid s r e t _, (accepted-said s r e t _ _ (rw number accepted), recorded))),
+            (where-said s r e t _ (rw number first), (unsaid s r e t _, (accepted-said s r e t _ _ (rw number accepted), λ z. said s r e t _ (recorded z)))),
           ),
         ),
       ),
