@@ -18,7 +18,7 @@ fold-number-requires c κs = search needs
 
 returns : tie.Need-returns
 returns c = (
-  c .fold-number .ensures .0 ∙ ap (λ (n : ℕ). checksum (c .before .before .args .sum) (halves (n ∷ []))) (c .before .single-bits .ensures .1),
+  c .fold-number .ensures .0 ∙ ap (λ (n : ℕ). checksum (c .before .before .args .sum) (halves (n ∷ []))) (c .before .single-bits .ensures .0),
   c .fold-number .ensures .1,
 )
 
