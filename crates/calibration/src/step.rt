@@ -106,7 +106,8 @@ fn own_step(file: &[u8], table: &[u8], used: usize, i: usize) -> Real
 // The first step that the levels that a walk has still before it state, with `levels` depths left.
 fn first_step(file: &[u8], table: &[u8], used: usize, from: Turn, levels: u64) -> Real
     requires { ⌜ Holds (now file) (now table) used × Standing (entryIn (now table)) used from ⌝ }
-    ensures { λ r. ⌜ real r ≡ firstOf (zStep levels (now (file .entry)) (entriesIn (now (table .entry)) used)) (restOf (now (file .entry)) (entryIn (now (table .entry))) used from) ⌝ }
+    ensures { λ r. ⌜ real r ≡ firstOf (zStep levels (now (file .entry)) (entriesIn (now (table .entry)) used))
+        (restOf (now (file .entry)) (entryIn (now (table .entry))) used from) ⌝ }
 {
     let mut turn = from;
     loop {

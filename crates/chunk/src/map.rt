@@ -156,7 +156,8 @@ pub struct Three {
 
 // One pass over the map's data for three names.
 pub fn look_three(map: &[u8], a: &[u8], b: &[u8], c: &[u8]) -> Three
-    ensures { λ r. ⌜ (lookupOf (r .a) ≡ findIn (now (map .entry)) (now (a .entry))) × (lookupOf (r .b) ≡ findIn (now (map .entry)) (now (b .entry))) × (lookupOf (r .c) ≡ findIn (now (map .entry)) (now (c .entry))) ⌝ }
+    ensures { λ r. ⌜ (lookupOf (r .a) ≡ findIn (now (map .entry)) (now (a .entry))) × (lookupOf (r .b) ≡ findIn (now (map .entry)) (now (b .entry)))
+        × (lookupOf (r .c) ≡ findIn (now (map .entry)) (now (c .entry))) ⌝ }
 {
     let mut at = 0;
     let mut entries: u64 = 0;

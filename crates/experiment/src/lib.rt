@@ -78,7 +78,9 @@ fn load_children(
     before: Kept,
 ) -> Walked
     requires { ⌜ Holds (now file) (now table) used × Standing (entryIn (now table)) used from × (nesting + levels ≤ 64) × Reached before ⌝ }
-    ensures { λ r. ⌜ ((bs : List Built) → Stands before bs → Gives r (walkAll (λ i. walk levels (now (file .entry)) (entriesIn (now (table .entry)) used) i nesting) (restOf (now (file .entry)) (entryIn (now (table .entry))) used from) bs)) ⌝ }
+    ensures { λ r. ⌜ ((bs : List Built) → Stands before bs → Gives r
+        (walkAll (λ i. walk levels (now (file .entry)) (entriesIn (now (table .entry)) used) i nesting)
+        (restOf (now (file .entry)) (entryIn (now (table .entry))) used from) bs)) ⌝ }
 {
     let mut turn = from;
     let mut kept = before;

@@ -54,7 +54,8 @@ pub enum Single {
 // The level that a list's only element is.
 fn only_level(table: &[u8], used: usize, parent: usize) -> Found
     requires { ⌜ Rows (now table) used × (parent ≤ used) ⌝ }
-    ensures { λ r. ⌜ ((s : List ℕ) → found r ≡ loopParams s (entriesIn (now (table .entry)) used) (some (list (elementsOf s (entriesIn (now (table .entry)) used) parent)))) × Within used r ⌝ }
+    ensures { λ r. ⌜ ((s : List ℕ) → found r ≡ loopParams s (entriesIn (now (table .entry)) used)
+        (some (list (elementsOf s (entriesIn (now (table .entry)) used) parent)))) × Within used r ⌝ }
 {
     match first_element(table, used, parent) {
         Found::Nothing => Found::Nothing,
@@ -68,7 +69,8 @@ fn only_level(table: &[u8], used: usize, parent: usize) -> Found
 // The parameters: a level, or a list of just one level.
 pub fn as_loop_params(table: &[u8], used: usize, f: Field) -> Found
     requires { ⌜ Rows (now table) used × FieldInside used f ⌝ }
-    ensures { λ r. ⌜ ((s : List ℕ) → found r ≡ loopParams s (entriesIn (now (table .entry)) used) (fieldMeaning s (entriesIn (now (table .entry)) used) f)) × Within used r ⌝ }
+    ensures { λ r. ⌜ ((s : List ℕ) → found r ≡ loopParams s (entriesIn (now (table .entry)) used)
+        (fieldMeaning s (entriesIn (now (table .entry)) used) f)) × Within used r ⌝ }
 {
     let Field::Is(v) = f else {
         return Found::Nothing;
@@ -114,7 +116,8 @@ fn is_truthy(file: &[u8], table: &[u8], used: usize, i: usize) -> u64
 // How many of the first n elements of a list are valid.
 fn count_valid(file: &[u8], table: &[u8], used: usize, parent: usize, n: u64) -> u64
     requires { ⌜ Holds (now file) (now table) used × (parent ≤ used) ⌝ }
-    ensures { λ r. ⌜ r ≡ countSet (now (file .entry)) (entriesIn (now (table .entry)) used) (take n (elementsOf (now (file .entry)) (entriesIn (now (table .entry)) used) parent)) ⌝ }
+    ensures { λ r. ⌜ r ≡ countSet (now (file .entry)) (entriesIn (now (table .entry)) used)
+        (take n (elementsOf (now (file .entry)) (entriesIn (now (table .entry)) used) parent)) ⌝ }
 {
     let mut count: u64 = 0;
     let mut left = n;
@@ -137,7 +140,8 @@ fn count_valid(file: &[u8], table: &[u8], used: usize, parent: usize, n: u64) ->
 // The points that are valid, of n, where the field is a list.
 fn valid_of(file: &[u8], table: &[u8], used: usize, n: u64, f: Field) -> u64
     requires { ⌜ Holds (now file) (now table) used × FieldInside used f ⌝ }
-    ensures { λ r. ⌜ r ≡ validOf (now (file .entry)) (entriesIn (now (table .entry)) used) n (fieldMeaning (now (file .entry)) (entriesIn (now (table .entry)) used) f) ⌝ }
+    ensures { λ r. ⌜ r ≡ validOf (now (file .entry)) (entriesIn (now (table .entry)) used) n
+        (fieldMeaning (now (file .entry)) (entriesIn (now (table .entry)) used) f) ⌝ }
 {
     let Field::Is(v) = f else {
         return n;
@@ -187,7 +191,9 @@ fn spectral_count(file: &[u8], table: &[u8], used: usize, p: usize) -> u64
 // The count of a loop by its type.
 fn loop_count(file: &[u8], table: &[u8], used: usize, i: usize, p: usize, kind: u64) -> u64
     requires { ⌜ Holds (now file) (now table) used × (i < used) × (p < used) ⌝ }
-    ensures { λ r. ⌜ r ≡ cond (eqb kind 2) (pointCount (now (file .entry)) (entriesIn (now (table .entry)) used) i p) (cond (eqb kind 6) (spectralCount (now (file .entry)) (entriesIn (now (table .entry)) used) p) (countField (now (file .entry)) (entriesIn (now (table .entry)) used) p)) ⌝ }
+    ensures { λ r. ⌜ r ≡ cond (eqb kind 2) (pointCount (now (file .entry)) (entriesIn (now (table .entry)) used) i p)
+        (cond (eqb kind 6) (spectralCount (now (file .entry)) (entriesIn (now (table .entry)) used) p)
+        (countField (now (file .entry)) (entriesIn (now (table .entry)) used) p)) ⌝ }
 {
     if kind == XY_POS {
         return xy_point_count(file, table, used, i, p);

@@ -24,7 +24,8 @@ use crate::value::level_at;
 // How many elements or entries a field has.
 pub fn size_of(file: &[u8], table: &[u8], used: usize, f: Field) -> u64
     requires { ⌜ Holds (now file) (now table) used × FieldInside used f ⌝ }
-    ensures { λ r. ⌜ r ≡ sizeOf (now (file .entry)) (entriesIn (now (table .entry)) used) (fieldMeaning (now (file .entry)) (entriesIn (now (table .entry)) used) f) ⌝ }
+    ensures { λ r. ⌜ r ≡ sizeOf (now (file .entry)) (entriesIn (now (table .entry)) used)
+        (fieldMeaning (now (file .entry)) (entriesIn (now (table .entry)) used) f) ⌝ }
 {
     let Field::Is(v) = f else {
         return 0;
@@ -39,7 +40,8 @@ pub fn size_of(file: &[u8], table: &[u8], used: usize, f: Field) -> u64
 // The start of a walk over the child levels of a field.
 pub fn children(table: &[u8], used: usize, f: Field) -> Turn
     requires { ⌜ Rows (now table) used × FieldInside used f ⌝ }
-    ensures { λ r. ⌜ ((s : List ℕ) → Walk s (entryIn (now (table .entry))) used (childLevels s (entriesIn (now (table .entry)) used) (fieldMeaning s (entriesIn (now (table .entry)) used) f)) r) ⌝ }
+    ensures { λ r. ⌜ ((s : List ℕ) → Walk s (entryIn (now (table .entry))) used
+        (childLevels s (entriesIn (now (table .entry)) used) (fieldMeaning s (entriesIn (now (table .entry)) used) f)) r) ⌝ }
 {
     let Field::Is(v) = f else {
         return Turn::Over;

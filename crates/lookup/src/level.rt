@@ -32,7 +32,8 @@ pub fn get_entry(file: &[u8], table: &[u8], used: usize, parent: usize, name: &[
 // The value of a name.
 pub fn get(file: &[u8], table: &[u8], used: usize, parent: usize, name: &[u8]) -> Field
     requires { ⌜ Holds (now file) (now table) used × (parent ≤ used) × (0 < length (now name)) ⌝ }
-    ensures { λ r. ⌜ (fieldMeaning (now (file .entry)) (entriesIn (now (table .entry)) used) r ≡ field (now (file .entry)) (entriesIn (now (table .entry)) used) parent (now (name .entry))) × FieldInside used r ⌝ }
+    ensures { λ r. ⌜ (fieldMeaning (now (file .entry)) (entriesIn (now (table .entry)) used) r
+        ≡ field (now (file .entry)) (entriesIn (now (table .entry)) used) parent (now (name .entry))) × FieldInside used r ⌝ }
 {
     match get_entry(file, table, used, parent, name) {
         Found::Nothing => Field::Absent,

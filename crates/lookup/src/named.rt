@@ -69,7 +69,8 @@ pub fn last_alike(
     n: usize,
 ) -> Found
     requires { ⌜ Holds (now file) (now table) used × Below (entryIn (now table)) used parent to × (at + 2 * n ≤ length (now file)) ⌝ }
-    ensures { λ r. ⌜ (found r ≡ lastNamed (now (file .entry)) (entryIn (now (table .entry))) parent (lossy (units n (now (file .entry)) at)) to) × Within to r ⌝ }
+    ensures { λ r. ⌜ (found r ≡ lastNamed (now (file .entry)) (entryIn (now (table .entry))) parent (lossy (units n (now (file .entry)) at)) to)
+        × Within to r ⌝ }
 {
     let mut i = to;
     loop {

@@ -61,7 +61,8 @@ pub fn count_places(file: &[u8], table: &[u8], used: usize, parent: usize) -> u6
 // The level that the only unnamed child of a level is.
 fn unnamed_level(table: &[u8], used: usize, parent: usize) -> Found
     requires { ⌜ Rows (now table) used × (parent ≤ used) ⌝ }
-    ensures { λ r. ⌜ ((s : List ℕ) → found r ≡ asLevel (some (slotValue s (entriesIn (now (table .entry)) used) (unnamed (kids (entryIn (now (table .entry))) parent 0 used))))) × Within used r ⌝ }
+    ensures { λ r. ⌜ ((s : List ℕ) → found r
+        ≡ asLevel (some (slotValue s (entriesIn (now (table .entry)) used) (unnamed (kids (entryIn (now (table .entry))) parent 0 used))))) × Within used r ⌝ }
 {
     match next_unnamed(table, used, parent, parent) {
         Found::Nothing => Found::Nothing,
@@ -82,7 +83,8 @@ pub fn place_level(
     i: usize,
 ) -> Found
     requires { ⌜ Holds (now file) (now table) used × Run (entryIn (now table)) used parent end × (i < used) ⌝ }
-    ensures { λ r. ⌜ (found r ≡ asLevel (some (slotValue (now (file .entry)) (entriesIn (now (table .entry)) used) (slotAt (now (file .entry)) (entryIn (now (table .entry))) used parent i)))) × Within used r ⌝ }
+    ensures { λ r. ⌜ (found r ≡ asLevel (some (slotValue (now (file .entry)) (entriesIn (now (table .entry)) used)
+        (slotAt (now (file .entry)) (entryIn (now (table .entry))) used parent i)))) × Within used r ⌝ }
 {
     let e = entry_at(table, i);
     let n = e.units as usize;
@@ -105,7 +107,8 @@ pub fn next_place(
     from: usize,
 ) -> Next
     requires { ⌜ Holds (now file) (now table) used × Run (entryIn (now table)) used parent end × (parent ≤ from) ⌝ }
-    ensures { λ r. ⌜ NextOf (now (file .entry)) (entryIn (now (table .entry))) used (placeLevels (now (file .entry)) (entryIn (now (table .entry))) used parent from) r ⌝ }
+    ensures { λ r. ⌜ NextOf (now (file .entry)) (entryIn (now (table .entry))) used
+        (placeLevels (now (file .entry)) (entryIn (now (table .entry))) used parent from) r ⌝ }
 {
     let mut i = from;
     while i < end {

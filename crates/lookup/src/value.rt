@@ -52,7 +52,8 @@ pub fn is_list(table: &[u8], used: usize, parent: usize) -> bool
 // The whole number that n stands for in two's complement, where `most` is the largest number of its bits.
 fn signed_of(n: u64, most: u64) -> ClxValue
     requires { ⌜ n ≤ most ⌝ }
-    ensures { λ r. ⌜ ((s : List ℕ) (es : List Entry) → meaning s es r ≡ whole (cond (ltb n (most / 2 + 1)) (pos n) (negsuc (most - n)))) × ((k : ℕ) → Inside k r) ⌝ }
+    ensures { λ r. ⌜ ((s : List ℕ) (es : List Entry) → meaning s es r ≡ whole (cond (ltb n (most / 2 + 1)) (pos n) (negsuc (most - n))))
+        × ((k : ℕ) → Inside k r) ⌝ }
 {
     if n <= most / 2 {
         ClxValue::Whole(n)
@@ -95,7 +96,8 @@ fn leaf_of(file: &[u8], e: Entry) -> ClxValue
 // The value of entry i.
 pub fn value_at(file: &[u8], table: &[u8], used: usize, i: usize) -> ClxValue
     requires { ⌜ Holds (now file) (now table) used × (i < used) ⌝ }
-    ensures { λ r. ⌜ (meaning (now (file .entry)) (entriesIn (now (table .entry)) used) r ≡ valueAt (now (file .entry)) (entriesIn (now (table .entry)) used) i) × Inside used r ⌝ }
+    ensures { λ r. ⌜ (meaning (now (file .entry)) (entriesIn (now (table .entry)) used) r
+        ≡ valueAt (now (file .entry)) (entriesIn (now (table .entry)) used) i) × Inside used r ⌝ }
 {
     let e = entry_at(table, i);
     if e.kind == clx_type::LEVEL {

@@ -14,7 +14,8 @@ ghost use Rattle.named_tree.specs.Named.{treeAt, treeUnder, Reads};
 
 // The tree of the chunk at `offset`, in the table, which is all zero where that is refused.
 pub fn read_at(file: &[u8], offset: u64, table: &mut [u8]) -> Parsed
-    ensures { λ r. ⌜ Reads (now (file .entry)) (now (table .exit)) (length (now (table .entry))) (treeAt (now (file .entry)) (roomIn (length (now (table .entry)))) offset) r ⌝ }
+    ensures { λ r. ⌜ Reads (now (file .entry)) (now (table .exit)) (length (now (table .entry)))
+        (treeAt (now (file .entry)) (roomIn (length (now (table .entry)))) offset) r ⌝ }
 {
     match chunk_data(file, offset, b"") {
         ChunkData::Bad => refuse(table, refusal::CHUNK),
@@ -28,7 +29,8 @@ pub fn read_at(file: &[u8], offset: u64, table: &mut [u8]) -> Parsed
 
 // The tree of the chunk that a lookup found; a table of zeros where there is none.
 pub fn read_named(file: &[u8], at: Lookup, table: &mut [u8]) -> Parsed
-    ensures { λ r. ⌜ Reads (now (file .entry)) (now (table .exit)) (length (now (table .entry))) (treeUnder (now (file .entry)) (roomIn (length (now (table .entry)))) (lookupOf at)) r ⌝ }
+    ensures { λ r. ⌜ Reads (now (file .entry)) (now (table .exit)) (length (now (table .entry)))
+        (treeUnder (now (file .entry)) (roomIn (length (now (table .entry)))) (lookupOf at)) r ⌝ }
 {
     match at {
         Lookup::At(offset) => read_at(file, offset, table),

@@ -59,8 +59,8 @@ abbrev pub planeOrder : List ℕ
 planeOrder =
     why.summary ∷ why.index ∷ why.ceiling ∷ why.map ∷ why.noFrame ∷ why.chunk ∷ why.frameShort ∷ why.buffer ∷ []
 
--- `out` is what an accepted plane of component c leaves in `buf`; chunk is the data of the frame's chunk. Sample y × width + x, byte for byte, is "the sample beginning
--- 8 + y × row bytes + (x × components + c) × sample bytes into the data"; "later bytes untouched".
+-- `out` is what an accepted plane of component c leaves in `buf`; chunk is the data of the frame's chunk. Sample y × width + x is, byte for byte, the one that
+-- begins 8 + y × row bytes + (x × components + c) × sample bytes into that data; the bytes behind the samples are as they were.
 pub record Copied (u : Summary) (c : ℕ) (chunk buf out : List ℕ) : Type 0 where
   pub sample : (y x k : ℕ) → y < u .height → x < u .width → k < sampleBytes (u .bits)
       → getD out ((y * u .width + x) * sampleBytes (u .bits) + k) 0
