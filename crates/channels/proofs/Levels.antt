@@ -6,16 +6,16 @@ use mathlib.Core.List.{List, [], map}
 use Rattle.format.specs.Bytes.{ascii}
 use Rattle.format.specs.Values.{level, field, fieldIn, asLevel, bind}
 use Rattle.format.specs.Loops.{childLevels}
-use Rattle.format.specs.Channels.{channelOf, planesOf, planesLevel, planeRecords}
+use Rattle.format.specs.Channels.{planeRecord, planeLevels, planesLevel, planeRecords}
 use Rattle.format.specs.declared.Entry.{Entry}
 
 module _ (s : List ℕ) (es : List Entry) where
-  pub planes-at : (i : ℕ) → some i ≡ planesLevel s es → planeRecords s es ≡ map (channelOf s es) (childLevels s es (some (level i)))
-  unfolding planeRecords planesOf
+  pub planes-at : (i : ℕ) → some i ≡ planesLevel s es → planeRecords s es ≡ map (planeRecord s es) (childLevels s es (some (level i)))
+  unfolding planeRecords planeLevels
   planes-at i e = rw (← e) refl
 
   pub planes-none : none ≡ planesLevel s es → planeRecords s es ≡ []
-  unfolding planeRecords planesOf
+  unfolding planeRecords planeLevels
   planes-none e = rw (← e) refl
 
   -- ---- the level

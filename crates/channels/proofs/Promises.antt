@@ -6,7 +6,7 @@ use lib.ListN.{length, getD, replicate, length-replicate}
 use Rattle.format.specs.Answer.{Answer, numberOf}
 use Rattle.format.specs.Bytes.{zeros}
 use Rattle.format.specs.Trees.{roomIn}
-use Rattle.format.specs.Channels.{emptyChannel, fitted}
+use Rattle.format.specs.Channels.{emptyChannel, PlaneRecord, fitted}
 use Rattle.format.specs.Calls.Channels.{recordsOf, rowBy, channelsCall}
 use Rattle.format.specs.Sentences.{Refuses, AcceptedUnless}
 use Rattle.format.specs.Refused.Order.{First}
@@ -27,7 +27,7 @@ module _ (s : List ℕ) (u : Summary) (bytes : List ℕ) (n : ℕ) where
   R = ChannelsRefusal s u (roomIn (length bytes)) n
 
   -- what a call makes of a row of n records
-  abbrev answer : Answer (List Channel)
+  abbrev answer : Answer (List PlaneRecord)
   answer = recordsOf s u (roomIn (length bytes)) n
 
   number-of : (cs : List Channel) → length cs ≡ n → numberOf answer ≡ channelsCall s u bytes cs .number

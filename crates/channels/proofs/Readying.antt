@@ -5,19 +5,17 @@ use mathlib.Core.Bool.{true, false}
 use mathlib.Core.Option.{Option}
 use mathlib.Core.List.{List, []}
 use lib.Dec.{ltb}
-use lib.ListN.{take}
 use borrow.Author.Tests.{eq-eqb, ne-eqb, lt-ltb, le-ltb}
 use Rattle.format.specs.Answer.{Answer, given, refused, refuseIf, andThen, numberOf}
 use Rattle.format.specs.Bytes.{ascii, zeros}
 use Rattle.format.specs.Refusals as why
 use Rattle.format.specs.Map.{MapEntry, mapEntries, offsetOf}
 use Rattle.format.specs.Trees.{namedTree}
-use Rattle.format.specs.Channels.{planeRecords, fitted}
+use Rattle.format.specs.Channels.{PlaneRecord, covered, planeRecords}
 use Rattle.format.specs.Summary.{badSummary, mapOf}
 use Rattle.format.specs.Calls.Channels.{recordsBy, recordsOf, rowBy}
 use Rattle.format.specs.Calls.Tree.{treeBy}
 use Rattle.format.specs.declared.Entry.{Entry}
-use Rattle.format.specs.declared.Channel.{Channel}
 use Rattle.format.specs.declared.Summary.{Summary}
 use Rattle.chunk.specs.Answers.{findIn}
 use Rattle.named_tree.specs.Named.{treeUnder}
@@ -25,7 +23,7 @@ use Rattle.named_tree.proofs.Answers.{under-listed}
 use Rattle.channels.specs.Ahead.{ahead, noPlanes}
 use Rattle.channels.specs.Ready.{planesTree, Ready}
 use Rattle.channels.specs.declared.Prepared.{Prepared}
-use Rattle.channels.proofs.Rows.{fitted-cut, fitted-same, none-at, none-stands, none-left, Before}
+use Rattle.channels.proofs.Rows.{fitted-same, none-at, none-stands, none-left, Before}
 
 -- the chunk with the planes
 abbrev pub planesName : List ℕ
@@ -33,12 +31,10 @@ planesName = ascii "ImageMetadataSeqLV|0!"
 
 -- ---- what is ready
 
-module _ (s t : List ℕ) (n most : ℕ) {a : Answer (List Channel)} {m : ℕ} {b : Answer (List Entry)} {p : Prepared} (held : t ≡ treeBy m b .buffer) where
-  pub ready-given : (cs : List Channel) → a ≡ given cs → p .number ≡ 0 → Before s t (p .planes) (take most cs) → Ready s t n most a m b p
+module _ (s t : List ℕ) (n most : ℕ) {a : Answer (List PlaneRecord)} {m : ℕ} {b : Answer (List Entry)} {p : Prepared} (held : t ≡ treeBy m b .buffer) where
+  pub ready-given : (ps : List PlaneRecord) → a ≡ given ps → p .number ≡ 0 → Before s t (p .planes) (covered most ps) → Ready s t n most a m b p
   unfolding rowBy numberOf
-  ready-given cs e z (g, f) =
-      rw e
-      (record { number = z; stands = g; row = fitted-same n (fitted most cs) (ahead s t (p .planes)) λ k. fitted-cut most cs k ∙ sym (f k); table = held })
+  ready-given ps e z (g, f) = rw e (record { number = z; stands = g; row = fitted-same n (covered most ps) (ahead s t (p .planes)) λ k. sym (f k); table = held })
 
   module _ (q : p .planes ≡ noPlanes) where
     pub ready-refused : (x : ℕ) → a ≡ refused x → p .number ≡ x → Ready s t n most a m b p
@@ -51,12 +47,12 @@ module _ (s t : List ℕ) (n most : ℕ) {a : Answer (List Channel)} {m : ℕ} {
     ready-empty e z = ready-given [] e z (none-left s t most q refl)
 
 -- the same of records and of a tree that are equal
-pub ready-same : {s t : List ℕ} {n most m : ℕ} {a c : Answer (List Channel)} {b d : Answer (List Entry)} {p : Prepared} → (a ≡ c) × (b ≡ d) → Ready s t n most c m d p
+pub ready-same : {s t : List ℕ} {n most m : ℕ} {a c : Answer (List PlaneRecord)} {b d : Answer (List Entry)} {p : Prepared} → (a ≡ c) × (b ≡ d) → Ready s t n most c m d p
     → Ready s t n most a m b p
 ready-same (e, f) r = rw (e, f) r
 
 -- refused before a tree is read: no records, and a table of zeros
-pub turned-away : {s t : List ℕ} {n most : ℕ} {a : Answer (List Channel)} {m : ℕ} {b : Answer (List Entry)} {p : Prepared} (x : ℕ) → (a ≡ refused x) × (b ≡ refused x)
+pub turned-away : {s t : List ℕ} {n most : ℕ} {a : Answer (List PlaneRecord)} {m : ℕ} {b : Answer (List Entry)} {p : Prepared} (x : ℕ) → (a ≡ refused x) × (b ≡ refused x)
     → (p .number ≡ x) × (p .planes ≡ noPlanes) × (t ≡ zeros m) → Ready s t n most a m b p
 unfolding treeBy
 turned-away {s} {t} {n} {most} x (e, f) (z, q, g) = ready-refused s t n most (rw f g) q x e z

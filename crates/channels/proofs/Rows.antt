@@ -1,17 +1,18 @@
 -- Rows that are cut or padded with empty records, and the records that a walk has before it. Assumes nothing.
-use Prim.Native.Nat.{ℕ, zero, suc, _+_, _-_, _≤_, _<_}
+use Prim.Native.Nat.{ℕ, zero, suc, _+_, _-_, _≤_, _<_, min}
 use mathlib.Core.Path.{_≡_, refl, sym, ap, _∙_}
-use mathlib.Core.List.{List, [], _∷_, _++_, map}
+use mathlib.Core.List.{List, [], _∷_, _++_}
 use native.Mathlib.Omega.{arith}
-use lib.ListN.{length, getD, take, replicate, List·getD-eq-default}
+use lib.ListN.{length, getD, replicate, List·getD-eq-default}
 use lib.Seq.{getD-take, ext-getD}
-use Rattle.format.specs.Channels.{emptyChannel, channelOf, fitted}
+use Rattle.format.specs.Channels.{emptyChannel, channelOf, PlaneRecord, planeRecord, covered, fitted}
 use Rattle.format.specs.declared.Channel.{Channel}
+use Rattle.format.proofs.Covered.{plane-covers, covered-zero}
 use Rattle.format.proofs.ChannelRecords.{fitted-length}
 use Rattle.lookup.specs.Table.{entryIn, entriesIn, Holds}
 use Rattle.lookup.specs.Walks.{Standing, restOf}
 use Rattle.lookup.specs.declared.Turn.{Turn}
-use Rattle.channels.specs.Ahead.{recordsFrom, ahead, recordOf, Stands, Follows, noPlanes}
+use Rattle.channels.specs.Ahead.{planesFrom, ahead, recordOf, Stands, Follows, noPlanes}
 use Rattle.channels.specs.declared.planes.Planes.{Planes}
 
 -- ---- rows
@@ -27,26 +28,10 @@ padded n (c ∷ cs) (suc k) = padded n cs k
 pub blank : (n k : ℕ) → getD (replicate n emptyChannel) k emptyChannel ≡ emptyChannel
 blank n k = padded n [] k
 
-padded-cut : (m n : ℕ) (cs : List Channel) (k : ℕ) → getD (take m (cs ++ replicate n emptyChannel)) k emptyChannel ≡ getD (take m cs) k emptyChannel
-padded-cut zero n cs k = refl
-padded-cut (suc m) zero [] k = refl
-padded-cut (suc m) (suc n) [] zero = refl
-padded-cut (suc m) (suc n) [] (suc k) = padded-cut m n [] k ∙ empty-cut m k
-  where
-    empty-cut : (m k : ℕ) → getD (take m []) k emptyChannel ≡ emptyChannel
-    empty-cut zero k = refl
-    empty-cut (suc m) k = refl
-padded-cut (suc m) n (c ∷ cs) zero = refl
-padded-cut (suc m) n (c ∷ cs) (suc k) = padded-cut m n cs k
-
 -- record k of a row
 pub fitted-at : (n : ℕ) (cs : List Channel) (k : ℕ) → k < n → getD (fitted n cs) k emptyChannel ≡ getD cs k emptyChannel
 unfolding fitted
 fitted-at n cs k h = getD-take n (cs ++ replicate n emptyChannel) k emptyChannel h ∙ padded n cs k
-
-pub fitted-cut : (n : ℕ) (cs : List Channel) (k : ℕ) → getD (fitted n cs) k emptyChannel ≡ getD (take n cs) k emptyChannel
-unfolding fitted
-fitted-cut n cs k = padded-cut n n cs k
 
 -- rows of the same records are the same
 pub fitted-same : (n : ℕ) (xs ys : List Channel) → ((k : ℕ) → getD xs k emptyChannel ≡ getD ys k emptyChannel) → fitted n xs ≡ fitted n ys
@@ -55,11 +40,22 @@ fitted-same n xs ys f =
     let l : i < n = rw (fitted-length n xs) at h in
     fitted-at n xs i l ∙ f i ∙ sym (fitted-at n ys i l)
 
+-- ---- the records of one plane
+
+-- of n components that it covers, the next one and m more
+one-plane : (v most n m : ℕ) (c : Channel) (ps : List PlaneRecord) → n ≡ min v most → n ≡ suc m
+    → c ∷ (replicate m c ++ covered (most - n) ps) ≡ replicate (min v most) c ++ covered (most - v) ps
+one-plane v most n m c ps q w = let y : most - v ≡ most - n = omega arith in rw (← q, y, w) refl
+
+one-fewer : (a b : ℕ) (c : Channel) (cs : List Channel) (k : ℕ) → a ≡ suc b
+    → getD (c ∷ (replicate b c ++ cs)) k emptyChannel ≡ getD (replicate a c ++ cs) k emptyChannel
+one-fewer a b c cs k e = rw e refl
+
 -- ---- walks
 
 module _ (s t : List ℕ) where
   pub none-at : (k : ℕ) → recordOf s t noPlanes k ≡ emptyChannel
-  unfolding ahead
+  unfolding ahead covered
   none-at zero = refl
   none-at (suc k) = refl
 
@@ -80,30 +76,43 @@ module _ (s t : List ℕ) where
   pub none-before : {p : Planes} {cs : List Channel} → p ≡ noPlanes → cs ≡ [] → Before p cs
   none-before e q = rw (e, q) (none-stands, none-at)
 
-  pub none-wanted : {p : Planes} {n : ℕ} (cs : List Channel) → p ≡ noPlanes → n ≡ 0 → Before p (take n cs)
-  none-wanted cs e q = rw (e, q) (none-stands, none-at)
+  pub none-wanted : {p : Planes} {n : ℕ} (ps : List PlaneRecord) → p ≡ noPlanes → n ≡ 0 → Before p (covered n ps)
+  none-wanted {n = n} ps e q = none-before {cs = covered n ps} e (rw q (covered-zero ps))
 
-  pub none-left : {p : Planes} (n : ℕ) {cs : List Channel} → p ≡ noPlanes → cs ≡ [] → Before p (take n cs)
-  none-left n {cs} e q = none-before {cs = take n cs} e (rw q (cut n))
+  pub none-left : {p : Planes} (n : ℕ) {ps : List PlaneRecord} → p ≡ noPlanes → ps ≡ [] → Before p (covered n ps)
+  unfolding covered
+  none-left n {ps} e q = none-before {cs = covered n ps} e (rw q refl)
+
+  -- the record of the next plane, to as many components as it covers, and then those of the rest
+  pub one-before : (used most n i : ℕ) (turn rest : Turn) (c : Channel) → Holds s t used → (most ≡ 0 → ⊥) → Standing (entryIn t) used rest
+      → restOf s (entryIn t) used turn ≡ i ∷ restOf s (entryIn t) used rest
+      → n ≡ min (planeRecord s (entriesIn t used) i .covers) most → c ≡ channelOf s (entriesIn t used) i
+      → Before (record { channel = c; again = n - 1; rest = rest; left = most - n; used = used }) (covered most (planesFrom s t used turn))
+  unfolding ahead covered
+  one-before used most n i turn rest c h z g e q r = (record { holds = h; standing = g }, λ k. ap (λ (cs : List Channel). getD cs k emptyChannel) list)
     where
-      cut : (n : ℕ) → _≡_ {A = List Channel} (take n []) []
-      cut zero = refl
-      cut (suc n) = refl
+      v : ℕ
+      v = planeRecord s (entriesIn t used) i .covers
 
-  -- the record of the next level, and then those of the rest
-  pub one-before : (used n i : ℕ) (turn rest : Turn) (c : Channel) → Holds s t used → (n ≡ 0 → ⊥) → Standing (entryIn t) used rest → restOf s (entryIn t) used turn ≡ i ∷ restOf s (entryIn t) used rest
-      → c ≡ channelOf s (entriesIn t used) i → Before (record { channel = c; rest = rest; left = n - 1; used = used }) (take n (recordsFrom s t used turn))
-  unfolding ahead
-  one-before used n i turn rest c h z g e q = (record { holds = h; standing = g }, λ k. go n (n - 1) (omega arith) _ _ e k)
-    where
-      go : (n m : ℕ) → n ≡ suc m → (l ls : List ℕ) → l ≡ i ∷ ls → (k : ℕ)
-          → getD (c ∷ take m (map (channelOf s (entriesIn t used)) ls)) k emptyChannel ≡ getD (take n (map (channelOf s (entriesIn t used)) l)) k emptyChannel
-      go n m z l ls e k = rw (z, e, q) refl
+      some-covered : 0 < v
+      some-covered = plane-covers s (entriesIn t used) i
 
-  -- those behind the next record
-  pub after-next : (p : Planes) (k : ℕ) → getD (take (p .left) (recordsFrom s t (p .used) (p .rest))) k emptyChannel ≡ recordOf s t p (suc k)
+      list : c ∷ (replicate (n - 1) c ++ covered (most - n) (planesFrom s t used rest)) ≡ covered most (planesFrom s t used turn)
+      list = unfold covered planeRecord in rw (e, r) (one-plane v most n (n - 1) _ (planesFrom s t used rest) q (omega (arith, some-covered)))
+
+  -- ---- the components after the next one
+
+  -- the same plane covers them too
+  pub same-plane : {p r : Planes} → Stands s t p → (p .again ≡ 0 → ⊥)
+      → r ≡ record { channel = p .channel; again = p .again - 1; rest = p .rest; left = p .left; used = p .used } → Follows s t p r
   unfolding ahead
-  after-next p k = refl
+  same-plane {p} h z e =
+      rw e (record { stands = record { holds = h .holds; standing = h .standing }; behind = λ k. one-fewer (p .again) (p .again - 1) _ _ k (omega arith) })
+
+  -- or the planes behind it
+  pub next-planes : {p r : Planes} → p .again ≡ 0 → Before r (covered (p .left) (planesFrom s t (p .used) (p .rest))) → Follows s t p r
+  unfolding ahead
+  next-planes {p} z (g, f) = record { stands = g; behind = λ k. f k ∙ rw z refl }
 
 -- ---- a walk from the first record on
 

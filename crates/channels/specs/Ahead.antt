@@ -1,9 +1,9 @@
--- The plane records that a walk has still before it.
+-- The records that a walk has still before it, one for each component.
 use Prim.Native.Nat.{ℕ, suc}
 use mathlib.Core.Path.{_≡_}
-use mathlib.Core.List.{List, _∷_, map}
-use lib.ListN.{getD, take}
-use Rattle.format.specs.Channels.{emptyChannel, channelOf}
+use mathlib.Core.List.{List, _∷_, _++_, map}
+use lib.ListN.{getD, replicate}
+use Rattle.format.specs.Channels.{emptyChannel, PlaneRecord, planeRecord, covered}
 use Rattle.format.specs.declared.Channel.{Channel}
 use Rattle.lookup.specs.Table.{entryIn, entriesIn, Holds}
 use Rattle.lookup.specs.Walks.{restOf, Standing}
@@ -11,13 +11,17 @@ use Rattle.lookup.specs.declared.Turn.{Turn}
 use Rattle.lookup.specs.declared.Turn.the-variants.{Over}
 use Rattle.channels.specs.declared.planes.Planes.{Planes}
 
--- the records of the child levels that a walk has before it; the table t has `used` entries
-abbrev pub recordsFrom : List ℕ → List ℕ → ℕ → Turn → List Channel
-recordsFrom s t used turn = map (channelOf s (entriesIn t used)) (restOf s (entryIn t) used turn)
+-- the planes that a walk has before it; the table t has `used` entries
+abbrev pub planesFrom : List ℕ → List ℕ → ℕ → Turn → List PlaneRecord
+planesFrom s t used turn = map (planeRecord s (entriesIn t used)) (restOf s (entryIn t) used turn)
+
+-- those of the plane's components after the next one, and what the planes behind it give to the components that are left
+abbrev pub afterNext : List ℕ → List ℕ → Planes → List Channel
+afterNext s t p = replicate (p .again) (p .channel) ++ covered (p .left) (planesFrom s t (p .used) (p .rest))
 
 -- the next record, and those after it
 unfoldable pub ahead : List ℕ → List ℕ → Planes → List Channel
-ahead s t p = p .channel ∷ take (p .left) (recordsFrom s t (p .used) (p .rest))
+ahead s t p = p .channel ∷ afterNext s t p
 
 -- record k of them: empty where there are no more
 abbrev pub recordOf : List ℕ → List ℕ → Planes → ℕ → Channel
@@ -35,4 +39,4 @@ pub record Follows (s t : List ℕ) (p r : Planes) : Type 0 where
 
 -- empty records alone
 abbrev pub noPlanes : Planes
-noPlanes = record { channel = emptyChannel; rest = Over; left = 0; used = 0 }
+noPlanes = record { channel = emptyChannel; again = 0; rest = Over; left = 0; used = 0 }

@@ -10,13 +10,12 @@ use Rattle.format.specs.Bytes.{ascii}
 use Rattle.format.specs.Refusals as why
 use Rattle.format.specs.Map.{mapEntries}
 use Rattle.format.specs.Trees.{namedTree}
-use Rattle.format.specs.Channels.{fitted}
+use Rattle.format.specs.Channels.{PlaneRecord, fitted}
 use Rattle.format.specs.Summary.{badSummary, mapOf}
 use Rattle.format.specs.Calls.Channels.{rowBy}
 use Rattle.format.specs.Calls.Tree.{treeBy}
 use Rattle.format.specs.declared.Entry.{Entry}
 use Rattle.format.specs.declared.Summary.{Summary}
-use Rattle.format.specs.declared.Channel.{Channel}
 use Rattle.channels.specs.Ahead.{ahead, Stands}
 use Rattle.channels.specs.declared.Prepared.{Prepared}
 
@@ -28,9 +27,9 @@ planesTree s u room n =
     refuseIf (ltb n (u .components)) why.channelRow
     (namedTree s (mapOf s u) es room (ascii "ImageMetadataSeqLV|0!")))
 
--- Of the records `a`, with `most` components: the number, and a walk whose records are those of a row of n. The walk goes by the table t, whose
+-- Of the planes `a`, with `most` components: the number, and a walk whose records are those of a row of n. The walk goes by the table t, whose
 -- m bytes are the entries of the tree `b` with zeros behind them, or zeros alone.
-pub record Ready (s t : List ℕ) (n most : ℕ) (a : Answer (List Channel)) (m : ℕ) (b : Answer (List Entry)) (p : Prepared) : Type 0 where
+pub record Ready (s t : List ℕ) (n most : ℕ) (a : Answer (List PlaneRecord)) (m : ℕ) (b : Answer (List Entry)) (p : Prepared) : Type 0 where
   pub number : p .number ≡ numberOf a
   pub stands : Stands s t (p .planes)
   pub row : rowBy n most a ≡ fitted n (ahead s t (p .planes))

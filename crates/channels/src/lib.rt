@@ -1,4 +1,4 @@
-// The channels call: a record for each plane, after every refusal in order.
+// The channels call: a record for each component, by the planes that cover them, after every refusal in order.
 use chunk::data_of;
 use chunk::map::Lookup;
 use chunk::map::look_up;
@@ -32,7 +32,7 @@ ghost use Rattle.channels.specs.Ahead.{ahead, Stands, Follows, noPlanes}
 ghost use Rattle.channels.specs.Ready.{planesTree, Ready, IsBroken};
 
 mod record; // the record of one plane
-pub mod planes; // a walk over the planes
+pub mod planes; // a walk over the components
 
 // The number of a call that is accepted, and the plane records; else the number of a refusal, and no records.
 pub struct Prepared {
@@ -161,7 +161,7 @@ pub fn channel(file: &[u8], u: Summary, table: &mut [u8], row: usize, i: usize) 
     ended(table, p.number, c)
 }
 
-// The records after the next one, for a caller that holds the table to write. The table stays as it is.
+// The components after the next one, for a caller that holds the table to write. The table stays as it is.
 fn pass(file: &[u8], table: &mut [u8], p: Planes) -> Planes
     requires { ⌜ Stands (now file) (now table) p ⌝ }
     ensures { λ r. ⌜ Follows (now (file .entry)) (now (table .entry)) p r × (now (table .exit) ≡ now (table .entry)) ⌝ }

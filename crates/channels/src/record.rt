@@ -1,10 +1,10 @@
-// The record of one plane: its description's place and its colour.
+// The record of one plane: its description's place, its colour, and how many components it covers.
 ghost use mathlib.Core.Path.{_≡_};
 ghost use mathlib.Core.Option.{none};
 ghost use mathlib.Core.List.{List};
 ghost use Prim.Native.Nat.{ℕ, _<_};
 ghost use Rattle.format.specs.Numbers.{below32};
-ghost use Rattle.format.specs.Channels.{emptyChannel, withText, withColor, channelOf};
+ghost use Rattle.format.specs.Channels.{emptyChannel, withText, withColor, channelOf, coversOf, planeRecord};
 ghost use Rattle.format.specs.declared.Entry.{Entry};
 ghost use Rattle.number.specs.Readings.{natural};
 ghost use Rattle.lookup.specs.Table.{entriesIn, Holds};
@@ -84,4 +84,25 @@ pub fn channel_of(file: &[u8], table: &[u8], used: usize, i: usize) -> Channel
 {
     let c = described(get(file, table, used, i + 1, b"sDescription"));
     colored(c, get_u64(file, table, used, i + 1, b"uiColor"))
+}
+
+// How many components a plane with this uiCompCount covers: 1 where it is 0 or absent.
+fn covers(count: Natural) -> u64
+    ensures { λ r. ⌜ r ≡ coversOf (natural count) ⌝ }
+{
+    let Natural::Is(n) = count else {
+        return 1;
+    };
+    if n == 0 {
+        return 1;
+    }
+    n
+}
+
+// How many components the plane whose level is entry i covers.
+pub fn covers_of(file: &[u8], table: &[u8], used: usize, i: usize) -> u64
+    requires { ⌜ Holds (now file) (now table) used × (i < used) ⌝ }
+    ensures { λ r. ⌜ r ≡ planeRecord (now (file .entry)) (entriesIn (now (table .entry)) used) i .covers ⌝ }
+{
+    covers(get_u64(file, table, used, i + 1, b"uiCompCount"))
 }

@@ -19,7 +19,7 @@ use Rattle.format.specs.Bytes.{ascii, zeros}
 use Rattle.format.specs.Refusals as why
 use Rattle.format.specs.Map.{MapEntry, mapEntries}
 use Rattle.format.specs.Trees.{roomIn, namedTree}
-use Rattle.format.specs.Channels.{emptyChannel, fitted}
+use Rattle.format.specs.Channels.{emptyChannel, PlaneRecord, fitted}
 use Rattle.format.specs.Summary.{badSummary, mapOf}
 use Rattle.format.specs.Calls.Channels.{recordsBy, recordsOf, rowBy, channelsCall}
 use Rattle.format.specs.Grammar.Lists.{In, here, behind}
@@ -71,7 +71,7 @@ module _ (s : List ℕ) (u : Summary) (room n : ℕ) where
       go (given ts) q = goes (λ w. refused≢given (sym (short w) ∙ q)) gives
       go (refused k) q = by (eqb k why.table) refl
         where
-          by : (b : Bool) → eqb k why.table ≡ b → Decides R {A = List Channel} (why.table ∷ []) (cond b (refused why.table) (given []))
+          by : (b : Bool) → eqb k why.table ≡ b → Decides R {A = List PlaneRecord} (why.table ∷ []) (cond b (refused why.table) (given []))
           by true h = stops (table (says-table s u planesName room (decides-holds (named-decides s u planesName room es e) (q ∙ ap refused (eqb-true _ _ h)))))
           by false h = goes (λ w. let z = sym q ∙ short w in let e₂ : k ≡ why.table = cc in eqb-false _ _ h e₂) gives
 
@@ -99,7 +99,7 @@ module _ (s : List ℕ) (u : Summary) (bytes : List ℕ) (channels : List Channe
   unfolding channelsCall rowBy fitted numberOf
   channels-refused f = go (recordsOf s u (roomIn (length bytes)) (length channels)) f
     where
-      go : (x : Answer (List Channel)) → (numberOf x ≡ 0 → ⊥) → rowBy (length channels) (u .components) x ≡ replicate (length channels) emptyChannel
+      go : (x : Answer (List PlaneRecord)) → (numberOf x ≡ 0 → ⊥) → rowBy (length channels) (u .components) x ≡ replicate (length channels) emptyChannel
       go (refused k) f = take-all (length channels) (replicate (length channels) emptyChannel) (rw length-replicate (omega arith))
       go (given cs) f = absurd (f refl)
 

@@ -4,7 +4,7 @@ use mathlib.Core.Path.{_≡_, refl, sym, ap, _∙_, subst}
 use mathlib.Core.Logic.{_⊎_, inl, inr, ⊎-elim}
 use mathlib.Core.Bool.{Bool, true, false, cond}
 use mathlib.Core.Option.{some}
-use mathlib.Core.List.{List, [], _∷_, _++_}
+use mathlib.Core.List.{List, [], _∷_, _++_, map}
 use native.Mathlib.Omega.{arith}
 use lib.Dec.{eqb, ltb, leb}
 use lib.ListN.{length, getD, getElem?, take, replicate, length-append, length-replicate, List·getD-eq-default}
@@ -17,20 +17,22 @@ use Rattle.format.proofs.Trees.{passed-read, tree-unique}
 use Rattle.format.proofs.Entries.{data-read, read-data}
 use Rattle.format.proofs.Named.{named-read, read-named, tree-given, given-tree, tree-means}
 use Rattle.format.proofs.TreeCalls.{read-short}
-use Rattle.format.proofs.PlaneRecords.{planes-read, planes-once}
+use Rattle.format.proofs.Means.{Means}
+use Rattle.format.proofs.Covered.{covered-length}
+use Rattle.format.proofs.PlaneRecords.{record-read, record-once, planes-read, planes-once, covered-falls, falls-covered}
 use Rattle.format.proofs.ChannelCalls.{planesName, channels-decides, channels-accepted}
 use Rattle.format.specs.Answer.{Answer, given, refused, numberOf}
 use Rattle.format.specs.Refusals as why
 use Rattle.format.specs.Map.{MapEntry, mapEntries}
 use Rattle.format.specs.Trees.{roomIn, treeIn, namedTree}
-use Rattle.format.specs.Channels.{emptyChannel, fitted}
+use Rattle.format.specs.Channels.{emptyChannel, channelOf, PlaneRecord, planeRecord, covered, planeRecords, fitted}
 use Rattle.format.specs.Summary.{badSummary, mapOf}
 use Rattle.format.specs.Calls.Channels.{recordsBy, recordsOf, rowBy, channelsCall}
 use Rattle.format.specs.Grammar.Trees.{Tree}
-use Rattle.format.specs.Grammar.Channels.{Empty}
+use Rattle.format.specs.Grammar.Channels.{Empty, Record, FallsTo}
 use Rattle.format.specs.Refused.Tree.{NameData, TableShort}
-use Rattle.format.specs.Refused.Channels.{row as row-short, channelsOrder, RecordsOf, stated, unstated}
-use Rattle.format.specs.Refused.Channels.{RecordAt, of-plane, padded, surplus, Recorded, Emptied}
+use Rattle.format.specs.Refused.Channels.{row as row-short, channelsOrder, PlanesIn, NoTree}
+use Rattle.format.specs.Refused.Channels.{RecordAt, of-plane, of-none, unstated, surplus, Recorded, Emptied}
 use Rattle.format.specs.declared.Range.{Range}
 use Rattle.format.specs.declared.Entry.{Entry}
 use Rattle.format.specs.declared.Channel.{Channel}
@@ -77,92 +79,132 @@ fitted-at : (n : ℕ) (cs : List Channel) (i : ℕ) (c : Channel) → getElem? (
 unfolding fitted
 fitted-at n cs i c e = cut-at n n cs i c e
 
--- ---- the records
+-- ---- the planes
+
+-- what is read of the planes of a summary's file: those of its tree, and none without one
+data PlanesRead (s : List ℕ) (u : Summary) : List PlaneRecord → Type 0 where
+  read : {es : List Entry} {is : List ℕ} → PlanesIn s u es is → PlanesRead s u (map (planeRecord s es) is)
+  none-read : NoTree s u → PlanesRead s u []
 
 module _ (s : List ℕ) (u : Summary) where
-  module _ (es : List MapEntry) (map : mapEntries (mapOf s u) ≡ given es) (room : ℕ) where
+  module _ (es : List MapEntry) (map-read : mapEntries (mapOf s u) ≡ given es) (room : ℕ) where
     -- a tree that is read gives its planes' records, and one that is not, 18 excepted, none
-    by-tree : (cs : List Channel) → recordsBy s (namedTree s (mapOf s u) es room planesName) ≡ given cs → RecordsOf s u cs
-    unfolding recordsBy
-    by-tree cs e = go (namedTree s (mapOf s u) es room planesName) refl e
+    by-tree : (ps : List PlaneRecord) → recordsBy s (namedTree s (mapOf s u) es room planesName) ≡ given ps → PlanesRead s u ps
+    unfolding recordsBy planeRecords
+    by-tree ps e = go (namedTree s (mapOf s u) es room planesName) refl e
       where
-        go : (x : Answer (List Entry)) → namedTree s (mapOf s u) es room planesName ≡ x → recordsBy s x ≡ given cs → RecordsOf s u cs
+        go : (x : Answer (List Entry)) → namedTree s (mapOf s u) es room planesName ≡ x → recordsBy s x ≡ given ps → PlanesRead s u ps
         go (given ts) q e =
             let (r, x, t, h) = tree-given s (mapOf s u) es planesName room ts q in
-            subst (RecordsOf s u) (given-inj e)
-            (stated (data-read s u es map planesName r (read-named s (mapOf s u) es planesName r x)) t (planes-read s ts (tree-means s r ts t)))
+            let c = data-read s u es map-read planesName r (read-named s (mapOf s u) es planesName r x) in
+            subst (PlanesRead s u) (given-inj e) (read (record { place = r; chunk = c; tree = t; planes = planes-read s ts (tree-means s r ts t) }))
         go (refused k) q e = by (eqb k why.table) refl e
           where
-            no-tree : (k ≡ why.table → ⊥) → (r : Range) (ts : List Entry) → NameData s u planesName r → Tree s r ts → ⊥
+            no-tree : (k ≡ why.table → ⊥) → NoTree s u
             no-tree f r ts x t = fits (leb (length (treeIn s r .entries)) room) refl
               where
                 fits : (b : Bool) → leb (length (treeIn s r .entries)) room ≡ b → ⊥
                 fits true h =
-                    let y = named-read s (mapOf s u) es planesName r (read-data s u es map planesName r x) in
+                    let y = named-read s (mapOf s u) es planesName r (read-data s u es map-read planesName r x) in
                     refused≢given (sym q ∙ given-tree s (mapOf s u) es planesName room ts r y t (leb-true _ _ h))
                 fits false h =
                     let n = length (treeIn s r .entries) in
                     let y : TableShort s u planesName room = record { place = r; chunk = x; count = n; passed = passed-read s r; too-many = leb-false _ _ h } in
-                    let z = sym q ∙ read-short s u planesName room es map y in
+                    let z = sym q ∙ read-short s u planesName room es map-read y in
                     f cc
 
-            by : (b : Bool) → eqb k why.table ≡ b → cond b (refused why.table) (given []) ≡ given cs → RecordsOf s u cs
+            by : (b : Bool) → eqb k why.table ≡ b → cond b (refused why.table) (given []) ≡ given ps → PlanesRead s u ps
             by true h e = absurd (refused≢given e)
-            by false h e = subst (RecordsOf s u) (given-inj e) (unstated (no-tree (eqb-false k why.table h)))
+            by false h e = subst (PlanesRead s u) (given-inj e) (none-read (no-tree (eqb-false k why.table h)))
 
-  given-records : (room n : ℕ) (cs : List Channel) → recordsOf s u room n ≡ given cs → RecordsOf s u cs
+  given-records : (room n : ℕ) (ps : List PlaneRecord) → recordsOf s u room n ≡ given ps → PlanesRead s u ps
   unfolding recordsOf
-  given-records room n cs e =
+  given-records room n ps e =
       let (f₁, e₁) = refuseIf-given (badSummary s u) why.summary _ e in
       let (es, f₂, e₂) = andThen-given (mapEntries (mapOf s u)) _ e₁ in
       let (f₃, e₃) = refuseIf-given (ltb n (u .components)) why.channelRow _ e₂ in
-      by-tree es f₂ room cs e₃
+      by-tree es f₂ room ps e₃
 
-  records-once : {cs ds : List Channel} → RecordsOf s u cs → RecordsOf s u ds → cs ≡ ds
-  records-once (stated {r = r} {es = es} x t p) (stated {r = q} {es = fs} y v w) =
-      let ms = x .entry .entries in
-      let map = read-map (mapOf s u) ms (x .entry .map-of) in
-      let e : q ≡ r = given-inj (sym (read-data s u ms map planesName q y) ∙ read-data s u ms map planesName r x) in
-      let f : fs ≡ es = tree-unique s r fs es (rw e at v) t in
-      planes-once s es (tree-means s r es t) p (rw f at w)
-  records-once (stated {r = r} {es = es} x t p) (unstated n) = absurd (n r es x t)
-  records-once (unstated n) (stated {r = r} {es = es} x t p) = absurd (n r es x t)
-  records-once (unstated n) (unstated m) = refl
+  means : {es : List Entry} {is : List ℕ} → PlanesIn s u es is → Means s es
+  means {es} x = tree-means s (x .place) es (x .tree)
+
+  -- a file has one tree of planes
+  same-planes : {es fs : List Entry} {is js : List ℕ} → PlanesIn s u es is → PlanesIn s u fs js → (fs ≡ es) × (js ≡ is)
+  same-planes {es} {fs} x y =
+      let ms = x .chunk .entry .entries in
+      let map-read = read-map (mapOf s u) ms (x .chunk .entry .map-of) in
+      let e : y .place ≡ x .place =
+      given-inj (sym (read-data s u ms map-read planesName (y .place) (y .chunk)) ∙ read-data s u ms map-read planesName (x .place) (x .chunk)) in
+      let q : fs ≡ es = tree-unique s (x .place) fs es (rw e at (y .tree)) (x .tree) in
+      (q, planes-once s es (means x) (rw q at (y .planes)) (x .planes))
 
   -- ---- the row
-
-  row-at : (cs : List Channel) → RecordsOf s u cs → (n i : ℕ) (c : Channel) → getElem? (fitted n (fitted (u .components) cs)) i ≡ some c
-      → RecordAt s u i c
-  row-at cs x n i c e =
-      let (h, k) = fitted-at n (fitted (u .components) cs) i c e in
-      ⊎-elim (λ q. let (l, m) = fitted-at (u .components) cs i c q in ⊎-elim (λ z. of-plane x l z) (λ (z, y). padded x z y) m)
-      (λ (q, y). surplus (rw (fitted-length (u .components) cs) at q) y) k
 
   at-length : (cs : List Channel) (i : ℕ) (c : Channel) → getElem? cs i ≡ some c → i < length cs
   at-length [] i c e = absurd (none≢some e)
   at-length (d ∷ cs) zero c e = omega arith
   at-length (d ∷ cs) (suc i) c e = let h = at-length cs i c e in omega arith
 
-  -- record i of the planes is not behind their end
-  not-behind : (i : ℕ) (c : Channel) {cs ds : List Channel} → RecordsOf s u cs → RecordsOf s u ds → getElem? cs i ≡ some c → length ds ≤ i → ⊥
-  not-behind i c {cs} {ds} x y e h =
-      let q : cs ≡ ds = records-once x y in
-      let k = at-length ds i c (rw q at e) in
-      omega arith
+  row-at : {ps : List PlaneRecord} → PlanesRead s u ps → (n k : ℕ) (c : Channel) → getElem? (fitted n (covered (u .components) ps)) k ≡ some c → RecordAt s u k c
+  unfolding covered
+  row-at (none-read f) n k c e = ⊎-elim (λ q. absurd (none≢some q)) (λ (_, y). unstated f y) (fitted-at n [] k c e .1)
+  row-at (read {es = es} {is = is} x) n k c e = ⊎-elim taken empty (fitted-at n (covered (u .components) ps) k c e .1)
+    where
+      ps : List PlaneRecord
+      ps = map (planeRecord s es) is
 
-  pub record-at-once : (i : ℕ) {c d : Channel} → RecordAt s u i c → RecordAt s u i d → c ≡ d
-  record-at-once i {c} {d} (of-plane {cs = cs} x h e) (of-plane {cs = ds} y k f) =
-      let q : ds ≡ cs = records-once y x in
-      let z = sym e ∙ (rw q at f) in
-      cc
-  record-at-once i {c} (of-plane x h e) (padded y k f) = absurd (not-behind i c x y e k)
-  record-at-once i {c} {d} (padded x h e) (of-plane y k f) = absurd (not-behind i d y x f h)
-  record-at-once i (of-plane x h e) (surplus k f) = absurd (omega arith)
-  record-at-once i (surplus h e) (of-plane y k f) = absurd (omega arith)
-  record-at-once i (padded x h e) (padded y k f) = empty-once e f
-  record-at-once i (padded x h e) (surplus k f) = empty-once e f
-  record-at-once i (surplus h e) (padded y k f) = empty-once e f
-  record-at-once i (surplus h e) (surplus k f) = empty-once e f
+      taken : getElem? (covered (u .components) ps) k ≡ some c → RecordAt s u k c
+      taken q =
+          let l = covered-length (u .components) ps in
+          let m = at-length (covered (u .components) ps) k c q in
+          let h : k < u .components = omega arith in
+          let (i, f, r) = covered-falls s es (means x) (u .components) is k c h q in
+          of-plane x h f r
+
+      empty : (length (covered (u .components) ps) ≤ k) × Empty c → RecordAt s u k c
+      empty (l, y) = by (ltb k (u .components)) refl
+        where
+          by : (b : Bool) → ltb k (u .components) ≡ b → RecordAt s u k c
+          by false h = surplus (ltb-false k (u .components) h) y
+          by true h =
+              of-none x (λ i f.
+              let m = at-length (covered (u .components) ps) k _ (falls-covered s es (means x) (u .components) f (ltb-true k (u .components) h)) in
+              omega arith)
+              y
+
+  -- a component that falls to two planes has the same record by both
+  same-record : {es : List Entry} {is : List ℕ} {i j k : ℕ} {c d : Channel} → Means s es → FallsTo s es is k i → FallsTo s es is k j
+      → Record s es i c → Record s es j d → c ≡ d
+  same-record {es} {is} {i} {j} {k} M f g r q =
+      let e = sym (falls-covered s es M (suc k) f (omega arith)) ∙ falls-covered s es M (suc k) g (omega arith) in
+      let z : channelOf s es i ≡ channelOf s es j = cc in
+      record-once s es M i r (record-read s es M i) ∙ z ∙ record-once s es M j (record-read s es M j) q
+
+  -- component k falls to a plane
+  abbrev Falls : ℕ → Type 0
+  Falls k = (es : List Entry) × (is : List ℕ) × (i : ℕ) × PlanesIn s u es is × (k < u .components) × FallsTo s es is k i
+
+  -- a record is that of a plane, or an empty one where there is no such plane
+  data Seen (k : ℕ) (c : Channel) : Type 0 where
+    plane : {es : List Entry} {is : List ℕ} {i : ℕ} → PlanesIn s u es is → k < u .components → FallsTo s es is k i → Record s es i c → Seen k c
+    empty : (Falls k → ⊥) → Empty c → Seen k c
+
+  seen : {k : ℕ} {c : Channel} → RecordAt s u k c → Seen k c
+  seen (of-plane x h f r) = plane x h f r
+  seen (of-none x n e) = empty (λ (fs, js, i, y, h, g). let (p, q) = same-planes x y in n i (rw q at (rw p at g))) e
+  seen (unstated n e) = empty (λ (fs, js, i, y, h, g). n (y .place) fs (y .chunk) (y .tree)) e
+  seen (surplus l e) = empty (λ (fs, js, i, y, h, g). omega arith) e
+
+  pub record-at-once : (k : ℕ) {c d : Channel} → RecordAt s u k c → RecordAt s u k d → c ≡ d
+  record-at-once k a b = go (seen a) (seen b)
+    where
+      go : {c d : Channel} → Seen k c → Seen k d → c ≡ d
+      go (plane x h f r) (plane {i = j} y l g q) =
+          let (p, e) = same-planes x y in
+          same-record (means x) f (rw e at (rw p at g)) r (rw p at q)
+      go (plane x h f r) (empty n e) = absurd (n (_, _, _, x, h, f))
+      go (empty n e) (plane y l g q) = absurd (n (_, _, _, y, l, g))
+      go (empty n e) (empty m f) = empty-once e f
 
 there : (cs : List Channel) (i : ℕ) → i < length cs → getElem? cs i ≡ some (getD cs i emptyChannel)
 there [] i h = absurd (omega arith)
@@ -187,8 +229,8 @@ module _ (s : List ℕ) (u : Summary) (bytes : List ℕ) (row : List Channel) wh
   channels-records e =
       let room = roomIn (length bytes) in
       let n = length row in
-      let (cs, q) = decides-given (nonzero channelsOrder refl) (channels-decides s u room n) e in
-      rw q (record { each = row-at s u cs (given-records s u room n cs q) n; length-kept = fitted-length n (fitted (u .components) cs) })
+      let (ps, q) = decides-given (nonzero channelsOrder refl) (channels-decides s u room n) e in
+      rw q (record { each = row-at s u (given-records s u room n ps q) n; length-kept = fitted-length n (covered (u .components) ps) })
 
   -- A record that is asked for by itself: behind the row's end it is empty.
   pub channels-record : channelsCall s u bytes row .number ≡ 0 → (i : ℕ) → RecordAt s u i (getD (channelsCall s u bytes row .row) i emptyChannel)
@@ -216,6 +258,6 @@ module _ (s : List ℕ) (u : Summary) (bytes : List ℕ) (row : List Channel) wh
       blank : (i : ℕ) (c : Channel) → getElem? (fitted (length row) []) i ≡ some c → Empty c
       blank i c e = ⊎-elim (λ q. absurd (none≢some q)) (λ (_, x). x) (fitted-at (length row) [] i c e .1)
 
-      go : (x : Answer (List Channel)) → (numberOf x ≡ 0 → ⊥) → Emptied (length row) (rowBy (length row) (u .components) x)
+      go : (x : Answer (List PlaneRecord)) → (numberOf x ≡ 0 → ⊥) → Emptied (length row) (rowBy (length row) (u .components) x)
       go (refused k) f = record { each = blank; length-kept = fitted-length (length row) [] }
       go (given cs) f = absurd (f refl)

@@ -1,27 +1,30 @@
--- The plane records of a tree are those that the grammar's rules say, and they say no others. Assumes nothing.
-use Prim.Native.Nat.{ℕ, suc, _+_, _*_, _/_, _%_, _^_, _<_}
+-- The planes of a tree, their records and the components that they cover are those that the grammar's rules say, and they say no others. Assumes nothing.
+use Prim.Native.Nat.{ℕ, suc, _+_, _-_, _*_, _/_, _%_, _^_, _≤_, _<_}
 use mathlib.Core.Path.{_≡_, refl, sym, ap, _∙_}
 use mathlib.Core.Logic.{_⊎_, inl, inr, ⊎-elim}
 use mathlib.Core.Bool.{Bool, true, false, true≢false}
 use mathlib.Core.Option.{Option, none, some, orElse}
-use mathlib.Core.List.{List, [], _∷_, map}
+use mathlib.Core.List.{List, [], _∷_, _++_, map}
 use native.Mathlib.Omega.{arith}
-use lib.Dec.{eqb}
-use borrow.Author.Tests.{eqb-true, eqb-false}
+use lib.Dec.{eqb, ltb}
+use lib.ListN.{getElem?}
+use borrow.Author.Tests.{eqb-true, eqb-false, ltb-true, ltb-false}
 use Rattle.format.proofs.Tests.{cond-by}
 use Rattle.format.proofs.Answers.{none≢some}
 use Rattle.format.proofs.Rules.{States, no-such, none-of, bind-some, some-bind}
 use Rattle.format.proofs.Means.{Means}
 use Rattle.format.proofs.Fields.{field-in, level-at, level-in, unsigned-in}
 use Rattle.format.proofs.AttributesOf.{below-some, some-below}
+use Rattle.format.proofs.Covered.{plane-channel, covered-first, covered-later}
 use Rattle.format.specs.Bytes.{ascii}
 use Rattle.format.specs.Values.{Value, flag, whole, double, text, bytes, level, list, field, fieldIn, asLevel, bind}
 use Rattle.format.specs.Numbers.{unsigned, below32}
 use Rattle.format.specs.Loops.{childLevels}
-use Rattle.format.specs.Channels.{withText, withColor, channelOf, planesOf, planesLevel, planeRecords}
+use Rattle.format.specs.Channels.{withText, withColor, channelOf, coversOf, planeRecord, covered, planesLevel, planeLevels}
 use Rattle.format.specs.Grammar.Values.{Field, LevelsIn}
 use Rattle.format.specs.Grammar.Numbers.{Unsigned}
-use Rattle.format.specs.Grammar.Channels.{ColorBytes, Described, name, no-name, Colored, color, no-color, Record, Records}
+use Rattle.format.specs.Grammar.Channels.{ColorBytes, Described, name, no-name, Colored, color, no-color, Record}
+use Rattle.format.specs.Grammar.Channels.{Covers, many, unsaid, Together, more, FallsTo}
 use Rattle.format.specs.Grammar.Channels.{PicturePlanes, PlanesAt, new, old, Planes, planes, no-planes}
 use Rattle.format.specs.declared.Entry.{Entry}
 use Rattle.format.specs.declared.Channel.{Channel}
@@ -144,15 +147,40 @@ module _ (s : List ℕ) (es : List Entry) (M : Means s es) where
         let (b₁, b₂, b₃, b₄) = colored-once (x .colors) (y .colors) in
         λ t. record { named = a₁ t; name = a₂ t; units = a₃ t; colored = b₁ t; red = b₂ t; green = b₃ t; blue = b₄ t }
 
+    -- ---- how many components it covers
+
+    count-in : States (bind (fieldIn s es i (ascii "uiCompCount")) unsigned) (Unsigned s es i (ascii "uiCompCount"))
+    unfolding ascii
+    count-in = unsigned-in s es M i
+
+    pub covers-read : Covers s es i (planeRecord s es i .covers)
+    unfolding planeRecord coversOf
+    covers-read = go (bind (fieldIn s es i (ascii "uiCompCount")) unsigned) count-in
+      where
+        go : (o : Option ℕ) → States o (Unsigned s es i (ascii "uiCompCount")) → Covers s es i (coversOf o)
+        go none S = unsaid λ n x. none≢some (S .only n x)
+        go (some n) S =
+            cond-by (Covers s es i) (eqb n 0) 1 n (λ q. Covers.zero (rw (eqb-true n 0 q) at (S .holds n refl)))
+            (λ q. many (S .holds n refl) (let z : n ≡ 0 → ⊥ = eqb-false n 0 q in omega arith))
+
+    pub covers-once : {n m : ℕ} → Covers s es i n → Covers s es i m → n ≡ m
+    covers-once (many {n = n} x h) (many {n = m} y k) = let e = sym (count-in .only n x) ∙ count-in .only m y in cc
+    covers-once (many {n = n} x h) (Covers.zero y) =
+        let e = sym (count-in .only n x) ∙ count-in .only 0 y in
+        let z : n ≡ 0 = cc in
+        absurd (omega arith)
+    covers-once (many {n = n} x h) (unsaid f) = absurd (f n x)
+    covers-once (Covers.zero x) (many {n = m} y k) =
+        let e = sym (count-in .only 0 x) ∙ count-in .only m y in
+        let z : m ≡ 0 = cc in
+        absurd (omega arith)
+    covers-once (Covers.zero x) (Covers.zero y) = refl
+    covers-once (Covers.zero x) (unsaid f) = absurd (f 0 x)
+    covers-once (unsaid f) (many {n = m} y k) = absurd (f m y)
+    covers-once (unsaid f) (Covers.zero y) = absurd (f 0 y)
+    covers-once (unsaid f) (unsaid g) = refl
+
   -- ---- the planes
-
-  records-read : (is : List ℕ) → Records s es is (map (channelOf s es) is)
-  records-read [] = Records.none
-  records-read (i ∷ is) = Records.one (record-read i) (records-read is)
-
-  records-once : {is : List ℕ} {cs ds : List Channel} → Records s es is cs → Records s es is ds → cs ≡ ds
-  records-once Records.none Records.none = refl
-  records-once (Records.one {i = i} x xs) (Records.one y ys) = λ t. record-once i x y t ∷ records-once xs ys t
 
   -- what is given is the first of two that is there
   first-there : (x y : Option ℕ) (i : ℕ) → orElse x y ≡ some i → (x ≡ some i) ⊎ ((x ≡ none) × (y ≡ some i))
@@ -188,8 +216,8 @@ module _ (s : List ℕ) (es : List Entry) (M : Means s es) where
       go (new {j = j} x f) = in-pictures x (unfold orElse in rw (level-in s es M j .only i f) refl)
       go (old {j = j} x n f) = in-pictures x (unfold orElse in rw (none-of _ (level-in s es M j) n) (level-in s es M j .only i f))
 
-  pub planes-read : Planes s es (planeRecords s es)
-  unfolding planeRecords planesOf
+  pub planes-read : Planes s es (planeLevels s es (planesLevel s es))
+  unfolding planeLevels
   planes-read = go (planesLevel s es) refl
     where
       -- a level's value is that of the entry which states it
@@ -200,16 +228,88 @@ module _ (s : List ℕ) (es : List Entry) (M : Means s es) where
       children i (new p f) = levels-in f
       children i (old p n f) = levels-in f
 
-      go : (o : Option ℕ) → planesLevel s es ≡ o → Planes s es (planesOf s es o)
+      go : (o : Option ℕ) → planesLevel s es ≡ o → Planes s es (planeLevels s es o)
       go none q = no-planes λ i p. none≢some (sym q ∙ read-level i p)
-      go (some i) q = let p = level-read i q in planes p (children i p) (records-read (childLevels s es (some (level i))))
+      go (some i) q = let p = level-read i q in planes p (children i p)
 
-  pub planes-once : {cs ds : List Channel} → Planes s es cs → Planes s es ds → cs ≡ ds
-  planes-once (planes {i = i} {is = is} p l x) (planes {i = j} {is = js} q m y) =
+  pub planes-once : {is js : List ℕ} → Planes s es is → Planes s es js → is ≡ js
+  planes-once (planes {i = i} {is = is} p l) (planes {i = j} {is = js} q m) =
       let e = sym (read-level i p) ∙ read-level j q in
       let f : i ≡ j = cc in
-      let g : is ≡ js = sym (M .of-levels (level i) is l) ∙ rw f (M .of-levels (level j) js m) in
-      records-once (rw g at x) y
-  planes-once (planes {i = i} p l x) (no-planes n) = absurd (n i p)
-  planes-once (no-planes n) (planes {i = i} p l x) = absurd (n i p)
+      sym (M .of-levels (level i) is l) ∙ rw f (M .of-levels (level j) js m)
+  planes-once (planes {i = i} p l) (no-planes n) = absurd (n i p)
+  planes-once (no-planes n) (planes {i = i} p l) = absurd (n i p)
   planes-once (no-planes n) (no-planes m) = refl
+
+  -- ---- the components that they cover
+
+  -- the records of m components, as read of the planes `is`
+  abbrev over-components : ℕ → List ℕ → List Channel
+  over-components m is = covered m (map (planeRecord s es) is)
+
+  -- each record is that of the plane to which its component falls
+  pub covered-falls : (m : ℕ) (is : List ℕ) (k : ℕ) (c : Channel) → k < m → getElem? (over-components m is) k ≡ some c
+      → (i : ℕ) × FallsTo s es is k i × Record s es i c
+  unfolding covered
+  covered-falls m [] k c h e = absurd (none≢some e)
+  covered-falls m (i ∷ is) k c h e = by (λ l z. covered-falls (m - v) is (k - v) c l z) (ltb k v) refl
+    where
+      -- how many components the first plane covers
+      v : ℕ
+      v = planeRecord s es i .covers
+
+      first : k < v → FallsTo s es (i ∷ is) k i
+      first l =
+          record {
+            before = [];
+            after = is;
+            in-order = refl;
+            passed = 0;
+            passed-by = Together.none;
+            own = v;
+            own-by = covers-read i;
+            not-before = omega arith;
+            not-after = omega arith;
+          }
+
+      further : {j : ℕ} → v ≤ k → FallsTo s es is (k - v) j → FallsTo s es (i ∷ is) k j
+      further l f =
+          record {
+            before = i ∷ f .before;
+            after = f .after;
+            in-order = ap (λ (js : List ℕ). i ∷ js) (f .in-order);
+            passed = v + f .passed;
+            passed-by = more (covers-read i) (f .passed-by);
+            own = f .own;
+            own-by = f .own-by;
+            not-before = omega (arith, f .not-before);
+            not-after = omega (arith, f .not-after);
+          }
+
+      by : (k - v < m - v → getElem? (over-components (m - v) is) (k - v) ≡ some c → (j : ℕ) × FallsTo s es is (k - v) j × Record s es j c)
+          → (b : Bool) → ltb k v ≡ b → (j : ℕ) × FallsTo s es (i ∷ is) k j × Record s es j c
+      by later true q =
+          let l = ltb-true k v q in
+          let z = sym e ∙ covered-first m (planeRecord s es i) (map (planeRecord s es) is) k h l in
+          let w = plane-channel s es i in
+          let x : c ≡ channelOf s es i = cc in
+          (i, first l, rw x (record-read i))
+      by later false q =
+          let l = ltb-false k v q in
+          let z = sym (covered-later m (planeRecord s es i) (map (planeRecord s es) is) k h l) ∙ e in
+          let (j, f, r) = later (omega arith) z in
+          (j, further l f, r)
+
+  -- and a component that falls to a plane has its record
+  pub falls-covered : (m : ℕ) {is : List ℕ} {k i : ℕ} → FallsTo s es is k i → k < m → getElem? (over-components m is) k ≡ some (channelOf s es i)
+  falls-covered m {is} {k} {i} f h = rw (f .in-order) (go (f .before) m k (f .passed) (f .passed-by) (f .not-before) (f .not-after) h)
+    where
+      go : (before : List ℕ) (m k passed : ℕ) → Together s es before passed → passed ≤ k → k < passed + f .own → k < m
+          → getElem? (over-components m (before ++ (i ∷ f .after))) k ≡ some (channelOf s es i)
+      go [] m k passed Together.none a b h =
+          let e : f .own ≡ planeRecord s es i .covers = covers-once i (f .own-by) (covers-read i) in
+          covered-first m (planeRecord s es i) (map (planeRecord s es) (f .after)) k h (omega arith) ∙ ap some (plane-channel s es i)
+      go (j ∷ before) m k passed (more {n = n} {m = q} x t) a b h =
+          let e : n ≡ planeRecord s es j .covers = covers-once j x (covers-read j) in
+          covered-later m (planeRecord s es j) (map (planeRecord s es) (before ++ (i ∷ f .after))) k h (omega arith)
+          ∙ go before (m - planeRecord s es j .covers) (k - planeRecord s es j .covers) q t (omega arith) (omega arith) (omega arith)

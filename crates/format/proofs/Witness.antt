@@ -16,7 +16,7 @@ use Rattle.format.specs.Values.{field, slotsOf, nameOf, putNamed, putUnn
 use Rattle.format.specs.Attributes.{attributes, uncompressed, badBits, badShape}
 use Rattle.format.specs.Loops.{experiment, sizeOf, pointCount, said, loopParams, orZero, childLevels, append, judge, hasAxis}
 use Rattle.format.specs.Calibration.{zClass, pixelSize, zStep, zFloat, calibration, unstated}
-use Rattle.format.specs.Channels.{planeRecords, planesLevel, planesOf, channelOf, emptyChannel}
+use Rattle.format.specs.Channels.{planeRecords, planesLevel, planeLevels, planeRecord, coversOf, covered, channelOf, emptyChannel}
 use Rattle.format.specs.Summary.{badSummary, noLoop, summaryOf}
 use Rattle.format.specs.Frames.{countOf, seqIndex, frames, indexAt, frameName}
 use Rattle.format.specs.Calls.Open.{opened}
@@ -167,7 +167,7 @@ pub pair-channels :
           ∷ emptyChannel
           ∷ [];
     }
-unfolding pair pairSummary ascii leBytes endMark mapName channelsCall refuseIf badSummary andThen mapEntries part same orRefuse offsetOf chunkData namedTree within treeIn planeRecords planesLevel planesOf channelOf emptyChannel asLevel field slotsOf nameOf units lossy leAt bind unsigned below32 putNamed putUnnamed elements slotValue valueAt childLevels
+unfolding pair pairSummary ascii leBytes endMark mapName channelsCall refuseIf badSummary andThen mapEntries part same orRefuse offsetOf chunkData namedTree within treeIn planeRecords planesLevel planeLevels planeRecord coversOf covered channelOf emptyChannel asLevel field slotsOf nameOf units lossy leAt bind unsigned below32 putNamed putUnnamed elements slotValue valueAt childLevels
 pair-channels = refl
 
 -- three entries are lent, and the calibration's tree has two

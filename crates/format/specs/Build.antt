@@ -26,6 +26,10 @@ abbrev pub u32 : String → ℕ → List ℕ
 unfolding ascii leBytes
 u32 name n = rec 3 (ascii name) (leBytes 4 n)
 
+abbrev pub u64 : String → ℕ → List ℕ
+unfolding ascii leBytes
+u64 name n = rec 5 (ascii name) (leBytes 8 n)
+
 -- a double of these bits
 abbrev pub f64 : String → ℕ → List ℕ
 unfolding ascii leBytes

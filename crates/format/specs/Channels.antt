@@ -1,8 +1,9 @@
--- "Calibration and channels": ImageMetadataSeqLV|0!, SLxPictureMetadata, sPicturePlanes, level sPlaneNew, else sPlane.
-use Prim.Native.Nat.{ℕ, _/_, _%_}
+-- "Calibration and channels": ImageMetadataSeqLV|0!, SLxPictureMetadata, sPicturePlanes, level sPlaneNew, else sPlane. A plane's record may cover several
+-- components.
+use Prim.Native.Nat.{ℕ, _-_, _/_, _%_, min}
 use mathlib.Core.Bool.{cond}
 use mathlib.Core.Option.{Option, none, some, orElse}
-use mathlib.Core.List.{List, [], _++_, map}
+use mathlib.Core.List.{List, [], _∷_, _++_, map}
 use lib.ListN.{take, replicate}
 use lib.Dec.{eqb}
 use Rattle.format.specs.Bytes.{ascii}
@@ -39,10 +40,25 @@ unfolding withText withColor ascii
 channelOf s es i =
     withText (fieldIn s es i (ascii "sDescription")) (withColor (below32 (bind (fieldIn s es i (ascii "uiColor")) unsigned)))
 
--- "one record per child level"
-unfoldable pub planesOf : List ℕ → List Entry → Option ℕ → List Channel
-planesOf s es none = []
-planesOf s es (some i) = map (channelOf s es) (childLevels s es (some (level i)))
+-- how many components a plane covers, by its uiCompCount: 1 where that is 0 or absent
+unfoldable pub coversOf : Option ℕ → ℕ
+coversOf none = 1
+coversOf (some n) = cond (eqb n 0) 1 n
+
+-- the record of a plane, and how many components it covers
+pub record PlaneRecord : Type 0 where
+  pub channel : Channel
+  pub covers : ℕ
+
+-- those of the plane whose level is the entry i
+unfoldable pub planeRecord : List ℕ → List Entry → ℕ → PlaneRecord
+unfolding channelOf coversOf ascii
+planeRecord s es i = record { channel = channelOf s es i; covers = coversOf (bind (fieldIn s es i (ascii "uiCompCount")) unsigned) }
+
+-- The records of the first m components: each plane's as often as it covers one of them, plane after plane. No more than m are made, whatever a plane says.
+unfoldable pub covered : ℕ → List PlaneRecord → List Channel
+covered m [] = []
+covered m (p ∷ ps) = replicate (min (p .covers) m) (p .channel) ++ covered (m - p .covers) ps
 
 -- "SLxPictureMetadata, sPicturePlanes, level sPlaneNew, else sPlane": the level whose children are the planes
 unfoldable pub planesLevel : List ℕ → List Entry → Option ℕ
@@ -52,10 +68,15 @@ planesLevel s es =
     bind (asLevel (fieldIn s es i (ascii "sPicturePlanes"))) λ j.
     orElse (asLevel (fieldIn s es j (ascii "sPlaneNew"))) (asLevel (fieldIn s es j (ascii "sPlane")))
 
-unfoldable pub planeRecords : List ℕ → List Entry → List Channel
-unfolding planesOf
-planeRecords s es = planesOf s es (planesLevel s es)
+-- the planes: its child levels
+unfoldable pub planeLevels : List ℕ → List Entry → Option ℕ → List ℕ
+planeLevels s es none = []
+planeLevels s es (some i) = childLevels s es (some (level i))
 
--- "Cut or padded with empty ones": n records
+unfoldable pub planeRecords : List ℕ → List Entry → List PlaneRecord
+unfolding planeRecord planeLevels
+planeRecords s es = map (planeRecord s es) (planeLevels s es (planesLevel s es))
+
+-- a row of n records: these, and empty ones behind them
 unfoldable pub fitted : ℕ → List Channel → List Channel
 fitted n cs = take n (cs ++ replicate n emptyChannel)

@@ -61,7 +61,7 @@ pub record FirstDemand : Type 0 where
   pub channels-table : (file : List ℕ) (u : Summary) (table : List ℕ) (row : List Channel) → channelsCall file u table row .table ≡ zeros (length table)
   pub channels-refused : (file : List ℕ) (u : Summary) (table : List ℕ) (row : List Channel)
       → Refuses (channelsCall file u table row .number) → Emptied (length row) (channelsCall file u table row .row)
-  -- "one record per child level .. Cut or padded with empty ones", and no other row is what the rules say
+  -- each component has the record of the plane that covers it, or an empty one, and no other row is what the rules say
   pub channels-records : (file : List ℕ) (u : Summary) (table : List ℕ) (row : List Channel)
       → channelsCall file u table row .number ≡ 0 → Recorded file u (length row) (channelsCall file u table row .row)
   pub channels-once : (file : List ℕ) (u : Summary) (n : ℕ) (out out′ : List Channel) → Recorded file u n out → Recorded file u n out′ → out ≡ out′

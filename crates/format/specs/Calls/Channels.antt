@@ -9,19 +9,19 @@ use Rattle.format.specs.Answer.{Answer, given, refused, refuseIf, andThe
 use Rattle.format.specs.Refusals as why
 use Rattle.format.specs.Map.{mapEntries}
 use Rattle.format.specs.Trees.{roomIn, namedTree}
-use Rattle.format.specs.Channels.{planeRecords, fitted}
+use Rattle.format.specs.Channels.{PlaneRecord, planeRecords, covered, fitted}
 use Rattle.format.specs.Summary.{mapOf, badSummary}
 use Rattle.format.specs.declared.Entry.{Entry}
 use Rattle.format.specs.declared.Channel.{Channel}
 use Rattle.format.specs.declared.Summary.{Summary}
 
 -- "a missing or failing chunk or tree, 18 excepted, gives only empty ones"
-unfoldable pub recordsBy : List ℕ → Answer (List Entry) → Answer (List Channel)
+unfoldable pub recordsBy : List ℕ → Answer (List Entry) → Answer (List PlaneRecord)
 recordsBy s (given es) = given (planeRecords s es)
 recordsBy s (refused k) = cond (eqb k why.table) (refused why.table) (given [])
 
 -- the plane records, with a table of `room` entries and a row of n records: 20, 5, 19, 18
-unfoldable pub recordsOf : List ℕ → Summary → ℕ → ℕ → Answer (List Channel)
+unfoldable pub recordsOf : List ℕ → Summary → ℕ → ℕ → Answer (List PlaneRecord)
 unfolding recordsBy ascii
 recordsOf s u room n =
     refuseIf (badSummary s u) why.summary
@@ -29,11 +29,11 @@ recordsOf s u room n =
     refuseIf (ltb n (u .components)) why.channelRow
     (recordsBy s (namedTree s (mapOf s u) es room (ascii "ImageMetadataSeqLV|0!"))))
 
--- One record for each component, "surplus records zero"; n is the length of the row. On a refusal every record is zero.
-unfoldable pub rowBy : ℕ → ℕ → Answer (List Channel) → List Channel
-unfolding fitted
+-- A row of n records: those that the planes give to the components, and empty ones behind them. On a refusal every record is empty.
+unfoldable pub rowBy : ℕ → ℕ → Answer (List PlaneRecord) → List Channel
+unfolding covered fitted
 rowBy n components (refused k) = fitted n []
-rowBy n components (given cs) = fitted n (fitted components cs)
+rowBy n components (given ps) = fitted n (covered components ps)
 
 -- the call's number, and what table and row hold afterwards
 pub record Channelled : Type 0 where

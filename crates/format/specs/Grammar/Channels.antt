@@ -1,7 +1,7 @@
 -- "The grammar": the channel records that a tree states, as rules. i is the number of the entry of a plane's level.
-use Prim.Native.Nat.{ℕ, suc, _+_, _*_, _^_, _<_}
+use Prim.Native.Nat.{ℕ, suc, _+_, _*_, _^_, _≤_, _<_}
 use mathlib.Core.Path.{_≡_}
-use mathlib.Core.List.{List, [], _∷_}
+use mathlib.Core.List.{List, [], _∷_, _++_}
 use Rattle.format.specs.Bytes.{ascii}
 use Rattle.format.specs.Values.{text, level}
 use Rattle.format.specs.Grammar.Values.{Field, LevelsIn}
@@ -46,10 +46,30 @@ module _ (s : List ℕ) (es : List Entry) where
     pub described : Described i (c .named) (c .name) (c .units)
     pub colors : Colored i (c .colored) (c .red) (c .green) (c .blue)
 
-  -- a record for each of these planes, in order
-  pub data Records : List ℕ → List Channel → Type 0 where
-    none : Records [] []
-    one : {i : ℕ} {is : List ℕ} {c : Channel} {cs : List Channel} → Record i c → Records is cs → Records (i ∷ is) (c ∷ cs)
+  -- ---- the components that it covers
+
+  -- how many: what its uiCompCount reads as, and 1 where that is 0, or nothing that reads as a number
+  pub data Covers (i : ℕ) : ℕ → Type 0 where
+    many : {n : ℕ} → Unsigned s es i (ascii "uiCompCount") n → 0 < n → Covers i n
+    zero : Unsigned s es i (ascii "uiCompCount") 0 → Covers i 1
+    unsaid : ((n : ℕ) → Unsigned s es i (ascii "uiCompCount") n → ⊥) → Covers i 1
+
+  -- how many these planes cover together
+  pub data Together : List ℕ → ℕ → Type 0 where
+    none : Together [] 0
+    more : {i n m : ℕ} {is : List ℕ} → Covers i n → Together is m → Together (i ∷ is) (n + m)
+
+  -- Component k, counted from 0, falls to the plane i of these: the planes before it cover no more than k components, and with its own they are more than k.
+  pub record FallsTo (is : List ℕ) (k i : ℕ) : Type 0 where
+    pub before : List ℕ
+    pub after : List ℕ
+    pub in-order : is ≡ before ++ (i ∷ after)
+    pub passed : ℕ
+    pub passed-by : Together before passed
+    pub own : ℕ
+    pub own-by : Covers i own
+    pub not-before : passed ≤ k
+    pub not-after : k < passed + own
 
   -- ---- the planes
 
@@ -65,7 +85,7 @@ module _ (s : List ℕ) (es : List Entry) where
     old : {i j : ℕ} → PicturePlanes j → ((k : ℕ) → Field s es (suc j) (ascii "sPlaneNew") (level k) → ⊥) → Field s es (suc j) (ascii "sPlane") (level i)
         → PlanesAt i
 
-  -- a record for each child that is a level, and none without such a level
-  pub data Planes : List Channel → Type 0 where
-    planes : {i : ℕ} {is : List ℕ} {cs : List Channel} → PlanesAt i → LevelsIn s es (level i) is → Records is cs → Planes cs
+  -- the planes: the children of that level that are levels, in order, and none without such a level
+  pub data Planes : List ℕ → Type 0 where
+    planes : {i : ℕ} {is : List ℕ} → PlanesAt i → LevelsIn s es (level i) is → Planes is
     no-planes : ((i : ℕ) → PlanesAt i → ⊥) → Planes []

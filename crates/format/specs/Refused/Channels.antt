@@ -9,7 +9,7 @@ use Rattle.format.specs.Map.{MapEntry}
 use Rattle.format.specs.Summary.{mapOf}
 use Rattle.format.specs.Grammar.Map.{MapOf}
 use Rattle.format.specs.Grammar.Trees.{Tree}
-use Rattle.format.specs.Grammar.Channels.{Empty, Planes}
+use Rattle.format.specs.Grammar.Channels.{Empty, Record, FallsTo, Planes}
 use Rattle.format.specs.Refused.Summary.{Sound}
 use Rattle.format.specs.Refused.Tree.{NameData, TableShort}
 use Rattle.format.specs.Refusals as why
@@ -28,17 +28,24 @@ pub data ChannelsRefusal (s : List ℕ) (u : Summary) (room n : ℕ) : ℕ → T
 abbrev pub channelsOrder : List ℕ
 channelsOrder = why.summary ∷ why.map ∷ why.channelRow ∷ why.table ∷ []
 
--- the records of the planes of the summary's file: none where the chunk is missing, or it or its tree is at fault
-pub data RecordsOf (s : List ℕ) (u : Summary) : List Channel → Type 0 where
-  stated : {r : Range} {es : List Entry} {cs : List Channel} → NameData s u (ascii "ImageMetadataSeqLV|0!") r → Tree s r es → Planes s es cs
-      → RecordsOf s u cs
-  unstated : ((r : Range) (es : List Entry) → NameData s u (ascii "ImageMetadataSeqLV|0!") r → Tree s r es → ⊥) → RecordsOf s u []
+-- `is` are the planes of the summary's file, in a tree of the entries es
+pub record PlanesIn (s : List ℕ) (u : Summary) (es : List Entry) (is : List ℕ) : Type 0 where
+  pub place : Range
+  pub chunk : NameData s u (ascii "ImageMetadataSeqLV|0!") place
+  pub tree : Tree s place es
+  pub planes : Planes s es is
 
--- record i of a row: that of plane i, where there is a component i; an empty one where there is no such plane, and behind the components
-pub data RecordAt (s : List ℕ) (u : Summary) (i : ℕ) (c : Channel) : Type 0 where
-  of-plane : {cs : List Channel} → RecordsOf s u cs → i < u .components → getElem? cs i ≡ some c → RecordAt s u i c
-  padded : {cs : List Channel} → RecordsOf s u cs → length cs ≤ i → Empty c → RecordAt s u i c
-  surplus : u .components ≤ i → Empty c → RecordAt s u i c
+-- the chunk is missing, or it or its tree is at fault
+abbrev pub NoTree : List ℕ → Summary → Type 0
+NoTree s u = (r : Range) (es : List Entry) → NameData s u (ascii "ImageMetadataSeqLV|0!") r → Tree s r es → ⊥
+
+-- Record k of a row: where there is a component k, that of the plane to which it falls. An empty one where it falls to no plane, without a tree, and behind the
+-- components.
+pub data RecordAt (s : List ℕ) (u : Summary) (k : ℕ) (c : Channel) : Type 0 where
+  of-plane : {es : List Entry} {is : List ℕ} {i : ℕ} → PlanesIn s u es is → k < u .components → FallsTo s es is k i → Record s es i c → RecordAt s u k c
+  of-none : {es : List Entry} {is : List ℕ} → PlanesIn s u es is → ((i : ℕ) → FallsTo s es is k i → ⊥) → Empty c → RecordAt s u k c
+  unstated : NoTree s u → Empty c → RecordAt s u k c
+  surplus : u .components ≤ k → Empty c → RecordAt s u k c
 
 -- `out` is what an accepted call leaves in a row of n records
 pub record Recorded (s : List ℕ) (u : Summary) (n : ℕ) (out : List Channel) : Type 0 where

@@ -1,6 +1,6 @@
--- `channels::planes::next_plane`: those behind the next record.
-use mathlib.Core.Path.{_∙_}
-use Rattle.channels.proofs.Rows.{after-next}
+-- `channels::planes::next_plane`: the next component of the same plane, or those of the planes behind it.
+use mathlib.Core.Path.{refl}
+use Rattle.channels.proofs.Rows.{same-plane, next-planes}
 use borrow.Author.Needs.{needs}
 use Rattle.channels.proofs.planes.next_plane.Statement.{statement}
 use Rattle.channels.proofs.planes.next_plane.Tie as tie
@@ -9,9 +9,15 @@ planes-from-requires : tie.Need-planes-from-requires
 planes-from-requires c κs = search needs
 
 returns : tie.Need-returns
-returns c =
-    let p = c .planes-from .ensures in
-    record { stands = p .0; behind = λ k. p .1 k ∙ after-next _ _ _ k }
+returns c = next-planes _ _ (c .before .if1 .taken) (c .planes-from .ensures)
+
+sub-t7 : tie.Need-sub-t7
+sub-t7 c = search needs
+
+returns-2 : tie.Need-returns-2
+returns-2 c =
+    let e = c .before .before in
+    same-plane _ _ (e .before .before .before .before .pre) (e .if1 .left) refl
 
 pub next-plane-spec : {M : Type 1} → statement M
-next-plane-spec = tie.close (tie.spec planes-from-requires returns)
+next-plane-spec = tie.close (tie.spec planes-from-requires returns sub-t7 returns-2)

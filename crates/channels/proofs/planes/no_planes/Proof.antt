@@ -10,7 +10,7 @@ no-channel-requires : tie.Need-no-channel-requires
 no-channel-requires c κs = search needs
 
 returns : tie.Need-returns
-returns c = ap (λ (x : Channel). record { channel = x; rest = Over; left = 0; used = 0 }) (c .no-channel .ensures)
+returns c = ap (λ (x : Channel). record { channel = x; again = 0; rest = Over; left = 0; used = 0 }) (c .no-channel .ensures)
 
 pub no-planes-spec : {M : Type 1} → statement M
 no-planes-spec = tie.close (tie.spec no-channel-requires returns)

@@ -1,8 +1,11 @@
--- `channels::planes::planes_from`: the next child level, if one is wanted and left.
-use mathlib.Core.Path.{_≡_, ap}
+-- `channels::planes::planes_from`: the next child level, if a component is left for it, and as many of its components as are wanted.
+use Prim.Native.Nat.{ℕ, min}
+use mathlib.Core.Path.{_≡_, ap, _∙_}
 use mathlib.Core.List.{[], map}
+use native.Mathlib.Omega.{arith}
 use denote.Ref.{now}
-use Rattle.format.specs.Channels.{channelOf}
+use Rattle.format.specs.Channels.{planeRecord}
+use Rattle.format.proofs.Covered.{plane-covers}
 use Rattle.lookup.specs.Table.{entryIn, entriesIn}
 use Rattle.lookup.specs.Walks.{restOf, NextOf}
 use Rattle.lookup.specs.declared.Next.the-variants.{Child}
@@ -35,24 +38,49 @@ module _ (c : tie.After-known-told) where
       NextOf (now (a .file)) (entryIn (now (a .table))) (a .used) (restOf (now (a .file)) (entryIn (now (a .table))) (a .used) (a .turn)) (Child (c .before .i .given .0 .0) (c .before .i .given .0 .1 .0))
   child = rw (c .before .i .given .1) at (c .before .before .before .next-child .ensures)
 
+covers-of-requires : tie.Need-covers-of-requires
+covers-of-requires c κs = (c .before .before .before .before .before .before .before .pre .0, child c .0)
+
+at-most-requires : tie.Need-at-most-requires
+at-most-requires c κs = search needs
+
+-- of the components that are left, those that it covers
+module _ (c : tie.After-at-most) where
+  cut : let k = c .before .before in
+      let a = k .before .before .before .before .before .before .before .args in
+      c .at-most .result ≡ min (planeRecord (now (a .file)) (entriesIn (now (a .table)) (a .used)) (k .before .i .given .0 .0) .covers) (a .most)
+  cut =
+      let k = c .before .before in
+      let a = k .before .before .before .before .before .before .before .args in
+      c .at-most .ensures ∙ ap (λ (v : ℕ). min v (a .most)) (c .before .covers-of .ensures)
+
 channel-of-requires : tie.Need-channel-of-requires
-channel-of-requires c κs = (c .before .before .before .before .before .before .before .pre .0, child c .0)
+channel-of-requires c κs = covers-of-requires (c .before .before) κs
 
 sub-t12 : tie.Need-sub-t12
-sub-t12 c = search needs
+sub-t12 c =
+    let k = c .before .before .before in
+    let e = k .before .before .before .before in
+    let a = e .before .before .before .args in
+    omega (arith, cut (c .before), e .if1 .left, plane-covers (now (a .file)) (entriesIn (now (a .table)) (a .used)) (k .before .i .given .0 .0))
+
+sub-t14 : tie.Need-sub-t14
+sub-t14 c = search needs
 
 returns-2 : tie.Need-returns-2
 returns-2 c =
     let d = c .before .before .before in
     let a = d .before .before .before .before .args in
     let e : restOf (now (a .file)) (entryIn (now (a .table))) (a .used) (a .turn) ≡ [] = rw (c .before .enum-told .given .1) at (d .next-child .ensures) in
-    none-left _ _ (a .most) (c .no-planes2 .ensures) (ap (map (channelOf (now (a .file)) (entriesIn (now (a .table)) (a .used)))) e)
+    none-left _ _ (a .most) (c .no-planes2 .ensures) (ap (map (planeRecord (now (a .file)) (entriesIn (now (a .table)) (a .used)))) e)
 
 returns-3 : tie.Need-returns-3
 returns-3 c =
-    let n = child (c .before) in
-    let e = c .before .before .before .before .before in
-    one-before _ _ _ _ _ (e .before .before .before .args .turn) _ _ (e .before .before .before .pre .0) (e .if1 .left) (n .1) (n .2) (c .channel-of .ensures)
+    let k = c .before .before .before in
+    let e = k .before .before .before .before in
+    let s = e .before .before .before in
+    let n = child k in
+    one-before _ _ _ (s .args .most) _ _ (s .args .turn) _ _ (s .pre .0) (e .if1 .left) (n .1) (n .2) (cut (c .before)) (c .channel-of .ensures)
 
 pub planes-from-spec : {M : Type 1} → statement M
 planes-from-spec =
@@ -64,7 +92,10 @@ planes-from-spec =
     enum-told
     no-planes-requires-2
     enum-known-i
+    covers-of-requires
+    at-most-requires
     channel-of-requires
     sub-t12
+    sub-t14
     returns-2
     returns-3)

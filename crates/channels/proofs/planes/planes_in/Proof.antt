@@ -1,10 +1,9 @@
 -- `channels::planes::planes_in`: the child levels of the level, if there is one.
 use mathlib.Core.Path.{sym, ap, _∙_}
 use mathlib.Core.List.{List, map}
-use lib.ListN.{getD, take}
+use lib.ListN.{getD}
 use denote.Ref.{now}
-use Rattle.format.specs.Channels.{emptyChannel, channelOf}
-use Rattle.format.specs.declared.Channel.{Channel}
+use Rattle.format.specs.Channels.{emptyChannel, PlaneRecord, planeRecord, covered}
 use Rattle.lookup.specs.Table.{found, entriesIn}
 use Rattle.lookup.specs.Values.{meaning, fieldMeaning}
 use Rattle.lookup.proofs.Search.{at-within}
@@ -45,9 +44,9 @@ returns-2 c =
     let a = d .before .before .before .before .before .before .args in
     let es = entriesIn (now (a .table)) (a .used) in
     let q = planes-at (now (a .file)) es _ (sym (ap found (d .before .i .given .1)) ∙ d .before .before .before .planes-level .ensures .0) in
-    let l = q ∙ ap (map (channelOf (now (a .file)) es)) (c .before .children .ensures (now (a .file)) .rest) in
+    let l = q ∙ ap (map (planeRecord (now (a .file)) es)) (c .before .children .ensures (now (a .file)) .rest) in
     let p = c .planes-from .ensures in
-    (p .0, λ k. p .1 k ∙ ap (λ (cs : List Channel). getD (take (a .most) cs) k emptyChannel) (sym l))
+    (p .0, λ k. p .1 k ∙ ap (λ (ps : List PlaneRecord). getD (covered (a .most) ps) k emptyChannel) (sym l))
 
 pub planes-in-spec : {M : Type 1} → statement M
 planes-in-spec =
