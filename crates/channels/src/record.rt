@@ -90,13 +90,13 @@ pub fn channel_of(file: &[u8], table: &[u8], used: usize, i: usize) -> Channel
 fn covers(count: Natural) -> u64
     ensures { λ r. ⌜ r ≡ coversOf (natural count) ⌝ }
 {
-    let Natural::Is(n) = count else {
+    let Natural::Is(said) = count else {
         return 1;
     };
-    if n == 0 {
+    if said == 0 {
         return 1;
     }
-    n
+    said
 }
 
 // How many components the plane whose level is entry i covers.
