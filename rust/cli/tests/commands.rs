@@ -4,20 +4,14 @@ mod common;
 
 use common::json::{parse, Json};
 use common::Folder;
+use sample::parts::Plane;
 use sample::roller::sample;
 use sample::{parts, tree, Nd2, Roller};
 
 fn small() -> Roller {
     Roller {
-        points: 3,
-        steps: 2,
-        lamps: 2,
-        width: 5,
-        height: 4,
         padding: 6,
-        focus_outside: false,
-        pixel: 0.325,
-        step: 0.5,
+        ..Roller::new(3, 2, 2, 5, 4)
     }
 }
 
@@ -91,10 +85,8 @@ fn json_is_valid_whatever_names_and_sizes_are() {
         &parts::calibration(f64::INFINITY).encode(),
     );
     let name = "\"quoted\" \\ \u{1}\u{7f}\n ü \u{1F600}";
-    file.add(
-        parts::CHANNELS,
-        &parts::channels(&[(name, 1), ("", 2)]).encode(),
-    );
+    let planes = [Plane::new(name, 1), Plane::new("", 2)];
+    file.add(parts::CHANNELS, &parts::channels(&planes).encode());
     folder.write("a\"b\\.nd2", &file.finish());
     let told = folder.run(&["info", "--json", "a\"b\\.nd2"]).fine();
     let json = parse(&told).expect("valid JSON");

@@ -6,15 +6,9 @@ use sample::{roller, Roller};
 
 fn small() -> Roller {
     Roller {
-        points: 3,
-        steps: 2,
-        lamps: 2,
-        width: 5,
-        height: 4,
         padding: 6,
         focus_outside: true,
-        pixel: 0.325,
-        step: 0.5,
+        ..Roller::new(3, 2, 2, 5, 4)
     }
 }
 

@@ -65,17 +65,7 @@ fn random_files() -> Vec<Step> {
 }
 
 fn roller(points: u32, steps: u32, lamps: u32) -> Roller {
-    Roller {
-        points,
-        steps,
-        lamps,
-        width: 3,
-        height: 2,
-        padding: 0,
-        focus_outside: false,
-        pixel: 0.325,
-        step: 0.5,
-    }
+    Roller::new(points, steps, lamps, 3, 2)
 }
 
 /// Every plane of small rollers, and of one whose focus loop is the outer one.
