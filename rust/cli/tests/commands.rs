@@ -238,3 +238,26 @@ fn the_sample_is_a_whole_roller() {
     let info = folder.run(&["info", "s.nd2"]).fine();
     assert!(info.contains("24 points, then 11 focus steps"), "{info}");
 }
+
+#[test]
+fn the_sample_of_a_colour_camera_has_one_record_for_its_components() {
+    let folder = Folder::new();
+    let told = folder.run(&["sample", "--colour", "s.nd2"]).fine();
+    assert_eq!(told, "s.nd2: 792 planes of 64 x 64 samples\n");
+    let checked = folder.run(&["check", "s.nd2"]).fine();
+    assert_eq!(checked, "s.nd2: 792 planes read\n");
+    let tree = folder
+        .run(&["tree", "s.nd2", "ImageMetadataSeqLV|0"])
+        .fine();
+    assert_eq!(tree.matches("sDescription").count(), 1, "{tree}");
+    assert!(tree.contains("uiCompCount: u64 = 3"), "{tree}");
+    let info = folder.run(&["info", "s.nd2"]).fine();
+    for line in [0, 1, 2].map(|i| format!("  channel {i}   colour camera, #ffffff\n")) {
+        assert!(info.contains(&line), "{line:?} is not in {info:?}");
+    }
+    let json = parse(&folder.run(&["info", "--json", "s.nd2"]).fine()).expect("valid JSON");
+    let channels = json.get("channels").items();
+    assert_eq!(channels.len(), 3);
+    let name = Json::Text("colour camera".into());
+    assert!(channels.iter().all(|c| c.get("name") == &name));
+}
