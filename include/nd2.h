@@ -87,7 +87,7 @@ typedef struct nd2_summary {
     uint32_t zero;        /* 0 */
 } nd2_summary;
 
-/* One channel, 56 bytes. */
+/* One channel, 56 bytes: equal for all components that one plane record of the file covers, all zero where none says anything of a component. */
 typedef struct nd2_channel {
     uint64_t named;       /* 1 where it has a name */
     uint64_t name;        /* the name's position in the file, UTF-16 units of two bytes */
@@ -131,7 +131,9 @@ uint32_t nd2_plane(const uint8_t *file, size_t file_len, const uint8_t *summary,
 uint32_t nd2_tree(const uint8_t *file, size_t file_len, const uint8_t *summary, size_t summary_len, const uint8_t *name, size_t name_len,
                   uint8_t *table, size_t table_len);
 
-/* Writes one record for each component, surplus records zero. The table is working room, all zero afterwards. */
+/* Writes one record for each component, surplus records zero. A plane record of the file may cover several components, as a colour camera's
+ * does: its channel record is then repeated for each of them, and what reaches past the last component is left out. The table is working
+ * room, all zero afterwards. */
 uint32_t nd2_channels(const uint8_t *file, size_t file_len, const uint8_t *summary, size_t summary_len, uint8_t *table, size_t table_len,
                       uint8_t *row, size_t row_len);
 

@@ -1,7 +1,7 @@
 //! The files that are read.
 
 use sample::file::MapEntry;
-use sample::parts::{self, Sizes};
+use sample::parts::{self, Plane, Sizes};
 use sample::tree::{level, u32, Record};
 use sample::Nd2;
 
@@ -55,7 +55,8 @@ pub fn deep() -> Vec<u8> {
     let mut file = needed(Sizes::packed(4, 4, 2, 16), &[]);
     file.add(DEEP, &tree.encode());
     file.add(parts::CALIBRATION, &parts::calibration(0.325).encode());
-    file.add(parts::CHANNELS, &parts::channels(&[("lamp", 255)]).encode());
+    let lamp = Plane::new("lamp", 255);
+    file.add(parts::CHANNELS, &parts::channels(&[lamp]).encode());
     file.add(&parts::frame_name(0), &parts::frame(&[7; 64]));
     file.finish()
 }

@@ -9,7 +9,7 @@ usage: nd2 COMMAND ...
   nd2 register FILE [--json]  each frame: scene, t, z and where it is in the file
   nd2 tree FILE CHUNK         the tree of a chunk, names and values
   nd2 check FILE...           reads every plane
-  nd2 sample OUT              writes a small sample file
+  nd2 sample OUT [--colour]   writes a small sample file
   nd2 COMMAND --help          more of a command
 
 Exit status: 0 all was done, 1 something was refused or failed, 2 wrong usage.
@@ -18,8 +18,9 @@ Exit status: 0 all was done, 1 something was refused or failed, 2 wrong usage.
 pub const INFO: &str = "\
 usage: nd2 info FILE [--json]
 
-Prints the sizes of the frames, the loops (the outermost first), the size of a pixel, the channels, and how many frames
-of the loops are in the file and how many are absent.
+Prints the sizes of the frames, the loops (the outermost first), the size of a pixel, the channels (one for each
+component; those that one plane record covers are equal), and how many frames of the loops are in the file and how many
+are absent.
 
   --json    the same as one JSON object
 ";
@@ -60,8 +61,10 @@ why; after 1000 refusals it goes on to the next file. The exit status is 1 if an
 ";
 
 pub const SAMPLE: &str = "\
-usage: nd2 sample OUT
+usage: nd2 sample OUT [--colour]
 
 Writes a sample file of 24 points, 11 focus steps and 2 lamps: 528 planes of 64 x 64 samples of 16 bits. OUT must not be
 there yet.
+
+  --colour    the same of a colour camera: 3 components and one plane record that covers them all, 792 planes
 ";

@@ -3,6 +3,7 @@
 use crate::arguments::Arguments;
 use crate::failure::{Done, Failure};
 use crate::text;
+use sample::Roller;
 use std::ffi::OsStr;
 use std::fs::File;
 use std::io::{self, Write};
@@ -10,13 +11,16 @@ use std::io::{self, Write};
 const POINTS: u32 = 24;
 const STEPS: u32 = 11;
 const LAMPS: u32 = 2;
+/// Red, green and blue of a colour camera.
+const COLOURS: u32 = 3;
 const SIDE: u32 = 64;
 
-pub fn run(arguments: Arguments) -> Done {
+pub fn run(mut arguments: Arguments) -> Done {
+    let roller = roller(arguments.flag("--colour"));
     let [path] = arguments.all(["OUT"])?;
-    write(&path).map_err(|error| Failure::at(text::of_os(&path), error))?;
+    write(&path, &roller).map_err(|error| Failure::at(text::of_os(&path), error))?;
     let mut out = io::stdout().lock();
-    let planes = POINTS * STEPS * LAMPS;
+    let planes = roller.points * roller.steps * roller.lamps;
     writeln!(
         out,
         "{}: {planes} planes of {SIDE} x {SIDE} samples",
@@ -25,8 +29,17 @@ pub fn run(arguments: Arguments) -> Done {
     Ok(())
 }
 
+/// The roller of a bench with lamps, or of a colour camera.
+fn roller(colour: bool) -> Roller {
+    let components = if colour { COLOURS } else { LAMPS };
+    Roller {
+        one_record: colour,
+        ..Roller::new(POINTS, STEPS, components, SIDE, SIDE)
+    }
+}
+
 /// Writes a new file; one that is there is left alone.
-fn write(path: &OsStr) -> io::Result<()> {
+fn write(path: &OsStr, roller: &Roller) -> io::Result<()> {
     let mut file = File::create_new(path)?;
-    file.write_all(&sample::roller(POINTS, STEPS, LAMPS, SIDE, SIDE))
+    file.write_all(&roller.file())
 }

@@ -4,20 +4,14 @@ mod common;
 
 use common::json::{parse, Json};
 use common::Folder;
+use sample::parts::Plane;
 use sample::roller::sample;
 use sample::{parts, tree, Nd2, Roller};
 
 fn small() -> Roller {
     Roller {
-        points: 3,
-        steps: 2,
-        lamps: 2,
-        width: 5,
-        height: 4,
         padding: 6,
-        focus_outside: false,
-        pixel: 0.325,
-        step: 0.5,
+        ..Roller::new(3, 2, 2, 5, 4)
     }
 }
 
@@ -91,10 +85,8 @@ fn json_is_valid_whatever_names_and_sizes_are() {
         &parts::calibration(f64::INFINITY).encode(),
     );
     let name = "\"quoted\" \\ \u{1}\u{7f}\n ü \u{1F600}";
-    file.add(
-        parts::CHANNELS,
-        &parts::channels(&[(name, 1), ("", 2)]).encode(),
-    );
+    let planes = [Plane::new(name, 1), Plane::new("", 2)];
+    file.add(parts::CHANNELS, &parts::channels(&planes).encode());
     folder.write("a\"b\\.nd2", &file.finish());
     let told = folder.run(&["info", "--json", "a\"b\\.nd2"]).fine();
     let json = parse(&told).expect("valid JSON");
@@ -245,4 +237,27 @@ fn the_sample_is_a_whole_roller() {
     );
     let info = folder.run(&["info", "s.nd2"]).fine();
     assert!(info.contains("24 points, then 11 focus steps"), "{info}");
+}
+
+#[test]
+fn the_sample_of_a_colour_camera_has_one_record_for_its_components() {
+    let folder = Folder::new();
+    let told = folder.run(&["sample", "--colour", "s.nd2"]).fine();
+    assert_eq!(told, "s.nd2: 792 planes of 64 x 64 samples\n");
+    let checked = folder.run(&["check", "s.nd2"]).fine();
+    assert_eq!(checked, "s.nd2: 792 planes read\n");
+    let tree = folder
+        .run(&["tree", "s.nd2", "ImageMetadataSeqLV|0"])
+        .fine();
+    assert_eq!(tree.matches("sDescription").count(), 1, "{tree}");
+    assert!(tree.contains("uiCompCount: u64 = 3"), "{tree}");
+    let info = folder.run(&["info", "s.nd2"]).fine();
+    for line in [0, 1, 2].map(|i| format!("  channel {i}   colour camera, #ffffff\n")) {
+        assert!(info.contains(&line), "{line:?} is not in {info:?}");
+    }
+    let json = parse(&folder.run(&["info", "--json", "s.nd2"]).fine()).expect("valid JSON");
+    let channels = json.get("channels").items();
+    assert_eq!(channels.len(), 3);
+    let name = Json::Text("colour camera".into());
+    assert!(channels.iter().all(|c| c.get("name") == &name));
 }

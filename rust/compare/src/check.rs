@@ -6,6 +6,7 @@ use crate::original::{Answer, ChannelTold, Opened, Told};
 use crate::table;
 use crate::wire::Out;
 use plan::{Plan, MOST_FRAMES, TREES};
+use second::channels::all_single;
 use second::names::{scalars, units_at};
 use second::refusal::{BUFFER, CHANNEL_ROW, MAP, PACKED, SUMMARY, TABLE};
 use second::trees::{written, ENTRY_BYTES};
@@ -38,11 +39,26 @@ const LIMIT_BYTES: usize = 17 * 2_000_001;
 /// The original passes over ten bytes after a packed record's first two; this is its message where there are fewer.
 const NO_TEN_BYTES: &str = "ND2 read out of bounds: need 10 bytes";
 
-/// What came out of one file: differences that are listed, and those that are not.
+/// What came out of one file: differences that are listed, those that are not, and what became of its channels.
 #[derive(Default)]
 pub struct Findings {
     pub listed: Vec<Listed>,
     pub unlisted: Vec<String>,
+    pub channels: Channels,
+}
+
+/// Whether a file's channels were held against the original's, in which every plane record stands for one component.
+#[derive(Clone, Copy, Default)]
+pub enum Channels {
+    /// There were none on one side.
+    #[default]
+    Unasked,
+    /// All of them were empty.
+    Empty,
+    /// Some have a name or a colour.
+    Told,
+    /// A plane record says other than one component.
+    LeftOut,
 }
 
 pub struct Check<'a> {
@@ -221,21 +237,37 @@ impl Check<'_> {
         let (Some(row), true) = (&self.answers.channels, self.map_read()) else {
             return;
         };
-        let components = self.plan.summary.components as usize;
         if self.both("channels", row.number, &self.original.channels) {
-            let theirs = self.original.channels.as_deref().unwrap_or(&[]);
-            let ours = row.records.iter().take(components);
-            let file = self.file;
-            let alike = ours.zip(theirs).all(|(o, t)| same_channel(file, o, t));
-            if theirs.len() != components || !alike {
-                self.differs(format!("channels: {:?}", row.records));
-            }
+            self.records(&row.records);
         }
         let short = self.answers.short_channels;
         self.same("channels, short row", &short, &Some(CHANNEL_ROW));
         let small = self.answers.small_channels;
         if small != Some(TABLE) {
             self.same("channels, small table", &small, &Some(row.number));
+        }
+    }
+
+    /// The records of the channels, where each plane record stands for one component.
+    fn records(&mut self, ours: &[Channel]) {
+        let root = second::calls::channel_root(self.file, &self.plan.summary);
+        if root.is_ok_and(|root| !all_single(&root)) {
+            self.findings.channels = Channels::LeftOut;
+            return;
+        }
+        let theirs = self.original.channels.as_deref().unwrap_or(&[]);
+        let told = theirs.iter().any(|t| t.name.is_some() || t.color.is_some());
+        self.findings.channels = if told {
+            Channels::Told
+        } else {
+            Channels::Empty
+        };
+        let components = self.plan.summary.components as usize;
+        let file = self.file;
+        let mut both = ours.iter().zip(theirs);
+        let alike = both.all(|(o, t)| same_channel(file, o, t));
+        if theirs.len() != components || !alike {
+            self.differs(format!("channels: {ours:?}"));
         }
     }
 

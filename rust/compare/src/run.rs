@@ -111,6 +111,7 @@ impl Run {
                 None => {
                     self.tally.count(&answers);
                     self.tally.listed(&mut findings.listed);
+                    self.tally.channels(findings.channels);
                     first = Some(answers);
                 }
             }

@@ -1,7 +1,7 @@
 //! How many files gave which number in which call.
 
 use crate::answers::{Answers, Strange};
-use crate::check::Listed;
+use crate::check::{Channels, Listed};
 use crate::numbers::WORDS;
 use std::collections::BTreeMap;
 
@@ -14,6 +14,9 @@ pub struct Tally {
     pub trees: u64,
     pub unlisted: u64,
     pub unasked: u64,
+    empty_channels: u64,
+    told_channels: u64,
+    left_out_channels: u64,
     listed: BTreeMap<Listed, u64>,
     hits: [[u64; 6]; 26],
 }
@@ -44,6 +47,16 @@ impl Tally {
         }
     }
 
+    /// Counts what became of a file's channels.
+    pub fn channels(&mut self, found: Channels) {
+        match found {
+            Channels::Unasked => {}
+            Channels::Empty => self.empty_channels += 1,
+            Channels::Told => self.told_channels += 1,
+            Channels::LeftOut => self.left_out_channels += 1,
+        }
+    }
+
     /// The numbers that no file gave.
     pub fn missing(&self) -> Vec<usize> {
         let given = |number: &usize| self.hits[*number].iter().any(|&n| n > 0);
@@ -67,6 +80,7 @@ impl Tally {
             "not asked of the original, many scenes: {} files",
             self.unasked
         );
+        self.print_channels();
         let missing = self.missing();
         if !missing.is_empty() {
             println!("numbers that no file gave: {missing:?}");
@@ -74,6 +88,18 @@ impl Tally {
         println!(
             "{} files, {} planes, {} trees, {} unlisted differences",
             self.files, self.planes, self.trees, self.unlisted
+        );
+    }
+
+    fn print_channels(&self) {
+        println!(
+            "channels compared with the original: {} files, {} of them with names or colours",
+            self.empty_channels + self.told_channels,
+            self.told_channels
+        );
+        println!(
+            "channels not compared with the original, a plane record says other than one component: {} files",
+            self.left_out_channels
         );
     }
 }

@@ -4,7 +4,7 @@ use crate::bytes::u64_at;
 use crate::raw::CHANNEL_BYTES;
 use crate::text::decoded;
 
-/// One component of the frames.
+/// One component of the frames. Components that a colour camera described together are equal.
 #[derive(Clone, Debug, Default, PartialEq, Eq)]
 pub struct Channel {
     /// Its name, if the file has one. A lone surrogate in it is U+FFFD.

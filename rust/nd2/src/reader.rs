@@ -106,11 +106,21 @@ impl<'a> Reader<'a> {
         Refusal::of_call(raw::plane(self.file, &self.laid, [scene, t, c, z], samples))
     }
 
-    /// The channels, one for each component. One that the file does not describe has neither name nor colour.
+    /// The channels, one for each component. A plane record of the file may cover several components, as a colour
+    /// camera's does: these have the same name and colour. One that the file does not describe has neither.
     ///
     /// # Errors
     ///
     /// 18 where there is no memory for the entries of the tree.
+    ///
+    /// ```
+    /// let camera = sample::Roller { one_record: true, ..sample::Roller::new(2, 1, 3, 4, 4) };
+    /// let bytes = camera.file();
+    /// let channels = nd2::Reader::open(&bytes)?.channels()?;
+    /// assert_eq!(channels.len(), 3);
+    /// assert!(channels.iter().all(|c| c.name.as_deref() == Some("colour camera")));
+    /// # Ok::<(), nd2::Refusal>(())
+    /// ```
     pub fn channels(&self) -> Result<Vec<Channel>, Refusal> {
         let bytes = records(self.summary.components, CHANNEL_BYTES);
         let mut row = bytes.and_then(zeroed).ok_or(Refusal::CHANNEL_ROW)?;

@@ -1,20 +1,15 @@
 //! Files of whole rollers, read back.
 
-use nd2::{Axis, Reader, Refusal, State, Value, ZStep};
+use nd2::{Axis, Channel, Reader, Refusal, State, Value, ZStep};
+use sample::parts::{self, Plane, Sizes};
 use sample::roller::sample;
-use sample::{roller, Roller};
+use sample::{roller, Nd2, Roller};
 
 fn small() -> Roller {
     Roller {
-        points: 3,
-        steps: 2,
-        lamps: 2,
-        width: 5,
-        height: 4,
         padding: 6,
         focus_outside: true,
-        pixel: 0.325,
-        step: 0.5,
+        ..Roller::new(3, 2, 2, 5, 4)
     }
 }
 
@@ -94,21 +89,65 @@ fn indices_that_are_too_large_are_refused() {
     }
 }
 
+fn channel(name: &str, red: u8, green: u8, blue: u8) -> Channel {
+    Channel {
+        name: Some(name.to_string()),
+        color: Some((red, green, blue)),
+    }
+}
+
+fn channels(bytes: &[u8]) -> Vec<Channel> {
+    Reader::open(bytes).unwrap().channels().unwrap()
+}
+
 #[test]
 fn channels_have_names_and_colours() {
-    let bytes = small().file();
-    let channels = Reader::open(&bytes).unwrap().channels().unwrap();
-    let told: Vec<_> = channels
-        .iter()
-        .map(|c| (c.name.as_deref(), c.color))
-        .collect();
-    assert_eq!(
-        told,
-        [
-            (Some("lamp 0"), Some((255, 0, 0))),
-            (Some("lamp 1"), Some((0, 255, 0)))
-        ]
-    );
+    let lamps = [channel("lamp 0", 255, 0, 0), channel("lamp 1", 0, 255, 0)];
+    assert_eq!(channels(&small().file()), lamps);
+}
+
+#[test]
+fn one_record_of_a_colour_camera_is_for_all_components() {
+    let r = Roller {
+        lamps: 3,
+        one_record: true,
+        ..small()
+    };
+    let bytes = r.file();
+    let camera = || channel("colour camera", 255, 255, 255);
+    assert_eq!(channels(&bytes), [camera(), camera(), camera()]);
+    let reader = Reader::open(&bytes).unwrap();
+    for lamp in 0..r.lamps {
+        let plane = reader.plane(2, 0, lamp.into(), 1);
+        assert_eq!(plane, Ok(expected(&r, 2, 1, lamp)));
+    }
+}
+
+/// The channels of a file of so many components and these plane records.
+fn covered(components: u64, planes: &[Plane]) -> Vec<Channel> {
+    let mut file = Nd2::new();
+    let sizes = Sizes::packed(1, 1, components, 8);
+    file.add(parts::ATTRIBUTES, &parts::attributes(sizes).encode());
+    file.add(parts::EXPERIMENT, &parts::experiment(&[]).encode());
+    file.add(parts::CHANNELS, &parts::channels(planes).encode());
+    channels(&file.finish())
+}
+
+#[test]
+fn plane_records_cover_components_in_turn() {
+    let colour = Plane::new("colour", 1);
+    let grey = Plane::new("grey", 0x0003_0200);
+    let told = || channel("colour", 1, 0, 0);
+    let then = || channel("grey", 0, 2, 3);
+    let planes = [colour.covering(2), grey.covering(1)];
+    assert_eq!(covered(3, &planes), [told(), told(), then()]);
+    let empty = Channel::default();
+    assert_eq!(covered(4, &planes), [told(), told(), then(), empty]);
+    assert_eq!(covered(2, &planes), [told(), told()]);
+    let most = [colour.covering(u64::MAX), grey.covering(u64::MAX)];
+    assert_eq!(covered(3, &most), [told(), told(), told()]);
+    let none = [colour.covering(0), grey];
+    assert_eq!(covered(2, &none), [told(), then()]);
 }
 
 #[test]

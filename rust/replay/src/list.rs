@@ -1,7 +1,7 @@
 //! Which files are in the list, and what is asked about them.
 
 use crate::answer::State;
-use crate::questions::{about, all};
+use crate::questions::{about, all, channels_of};
 use crate::rules;
 use crate::step::Step;
 use sample::parts::{self, Sizes};
@@ -25,6 +25,7 @@ pub fn steps() -> Vec<Step> {
     steps.extend(four_loops());
     steps.extend(ruled());
     steps.extend(rollers());
+    steps.extend(covered());
     steps.extend(random_files());
     steps
 }
@@ -65,17 +66,7 @@ fn random_files() -> Vec<Step> {
 }
 
 fn roller(points: u32, steps: u32, lamps: u32) -> Roller {
-    Roller {
-        points,
-        steps,
-        lamps,
-        width: 3,
-        height: 2,
-        padding: 0,
-        focus_outside: false,
-        pixel: 0.325,
-        step: 0.5,
-    }
+    Roller::new(points, steps, lamps, 3, 2)
 }
 
 /// Every plane of small rollers, and of one whose focus loop is the outer one.
@@ -109,6 +100,19 @@ fn every_plane(label: &str, roller: Roller) -> Vec<Step> {
 fn ruled() -> Vec<Step> {
     let rules = rules::all().into_iter().zip(1..);
     let asked = rules.filter_map(|((label, file), seed)| all(label, seed, file));
+    asked.flatten().collect()
+}
+
+/// Files whose plane records cover several components, and a roller of a colour camera.
+fn covered() -> Vec<Step> {
+    let camera = Roller {
+        one_record: true,
+        ..roller(2, 1, 3)
+    };
+    let mut files = rules::covered();
+    files.push(("a roller of a colour camera", camera.file()));
+    let files = files.into_iter();
+    let asked = files.map(|(label, file)| channels_of(label, file));
     asked.flatten().collect()
 }
 

@@ -5,8 +5,9 @@
 //!     cargo run --offline --release -p replay -- --check  says whether these are what would be written
 //!
 //! The list is made from seeds alone, so it is the same in every run: document 01's edges, files of single rules, small
-//! rollers with all their planes, and random files, good and damaged (`list` and `rules` say which, `questions` what is
-//! asked about them, `step` how it is stored). A change of `sample` or of `plan` changes it: write it anew.
+//! rollers with all their planes, files whose plane records cover several components, and random files, good and damaged
+//! (`list` and `rules` say which, `questions` what is asked about them, `step` how it is stored). A change of `sample` or
+//! of `plan` changes it: write it anew.
 
 mod answer;
 mod list;

@@ -58,6 +58,23 @@ pub fn about(label: &str, file: Vec<u8>) -> Vec<Step> {
     opened(label, file, 0)
 }
 
+/// A file that opens: its channels in a row that is just enough, in longer ones, and in one that is a byte short.
+pub fn channels_of(label: &str, file: Vec<u8>) -> Vec<Step> {
+    let summary = second::calls::opened(&file, usize::MAX).unwrap_or_default();
+    let components = summary.components as usize;
+    let table = for_channels(&file, &summary, components);
+    let enough = CHANNEL_BYTES * components;
+    let rows = [
+        enough,
+        enough + CHANNEL_BYTES,
+        enough + 2 * CHANNEL_BYTES + 5,
+        enough - 1,
+    ];
+    let mut steps = about(label, file);
+    steps.extend(rows.map(|buffer| Step::Channels { table, buffer }));
+    steps
+}
+
 /// The questions about a file, as a seed picks them; none where a table would be too large.
 pub fn all(label: &str, seed: u64, file: Vec<u8>) -> Option<Vec<Step>> {
     let open = second::calls::opened(&file, usize::MAX);

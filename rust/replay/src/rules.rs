@@ -1,11 +1,16 @@
 //! Small files for rules of document 01 that random ones seldom meet, each under its own label.
 
 use sample::file::Nd2;
-use sample::parts::{self, Sizes, FOCUS, POINTS, SPECTRAL, TIME};
-use sample::tree::{f64, flag, level, list, packed, raw, u32, u64, Level, Record, Value};
+use sample::parts::{self, Plane, Sizes, FOCUS, POINTS, SPECTRAL, TIME};
+use sample::tree::{
+    f64, flag, i32, level, list, packed, raw, text, u32, u64, Level, Record, Value,
+};
 
 /// A label and a file.
 pub type Rule = (&'static str, Vec<u8>);
+
+/// How many components a plane record covers.
+const COUNT: &str = "uiCompCount";
 
 const SIZES: Sizes = Sizes {
     width: 2,
@@ -290,6 +295,81 @@ fn calibrations() -> Vec<Rule> {
         (
             "dCalibration past the singles",
             stated(f64("dCalibration", 1e39)),
+        ),
+    ]
+}
+
+/// A file of three components and these channels.
+fn with_channels(channels: Record) -> Vec<u8> {
+    let experiment = parts::experiment(&[]).encode();
+    let more = [(parts::CHANNELS, channels)];
+    file_of(&parts::attributes(SIZES), &experiment, &more).finish()
+}
+
+/// Three components under plane records that say how many they cover, or nothing of it.
+fn covering(counts: &[Option<u64>]) -> Vec<u8> {
+    let names = ["first", "second", "third"].into_iter().zip(1..);
+    let plane = |((name, color), &covers)| Plane {
+        name,
+        color,
+        covers,
+    };
+    let planes: Vec<Plane> = names.zip(counts).map(plane).collect();
+    with_channels(parts::channels(&planes))
+}
+
+/// Three components under two plane records in a level of this name; in the first one stand these fields.
+fn saying(name: &str, fields: Vec<Record>) -> Vec<u8> {
+    let then = vec![text("sDescription", "then"), u32("uiColor", 255)];
+    let planes = vec![level("a0", fields), level("a1", then)];
+    with_channels(parts::channels_in(name, planes))
+}
+
+/// Plane records and how many of the three components they cover.
+pub fn covered() -> Vec<Rule> {
+    let mut rules = covered_counts();
+    rules.extend(covered_kinds());
+    rules
+}
+
+fn covered_counts() -> Vec<Rule> {
+    let most = Some(u64::MAX);
+    vec![
+        ("one plane record for 3 components", covering(&[Some(3)])),
+        ("uiCompCount 2, then none", covering(&[Some(2), None])),
+        ("uiCompCount 2, then no record", covering(&[Some(2)])),
+        ("uiCompCount 0, then none", covering(&[Some(0), None])),
+        ("uiCompCount 7", covering(&[Some(7)])),
+        ("2^64 - 1 in two records", covering(&[most, most])),
+        ("2^64 - 1 behind another", covering(&[None, most, most])),
+        (
+            "a record for the rest, then one that is cut off",
+            covering(&[None, Some(2), None]),
+        ),
+    ]
+}
+
+/// Counts of other kinds, and counts in other places.
+fn covered_kinds() -> Vec<Rule> {
+    let first = || text("sDescription", "first");
+    let said = |count: Record| saying("sPlaneNew", vec![first(), count]);
+    let beside = vec![u32(COUNT, 3), level("a0", vec![first()])];
+    vec![
+        ("a text as uiCompCount", said(text(COUNT, "2"))),
+        ("uiCompCount -2", said(i32(COUNT, -2))),
+        ("a flag as uiCompCount", said(flag(COUNT, 3))),
+        ("uiCompCount 2.9", said(f64(COUNT, 2.9))),
+        (
+            "an empty record for 2",
+            saying("sPlaneNew", vec![u32(COUNT, 2)]),
+        ),
+        (
+            "uiCompCount 2 in sPlane",
+            saying("sPlane", vec![first(), u32(COUNT, 2)]),
+        ),
+        (
+            "uiCompCount beside the plane records",
+            with_channels(parts::channels_in("sPlaneNew", beside)),
         ),
     ]
 }

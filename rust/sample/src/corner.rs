@@ -1,14 +1,14 @@
 //! Files at the limits that random ones do not reach: large maps, levels of many items, many scenes, a whole roller.
 
 use crate::file::{MapEntry, Nd2};
-use crate::parts::{self, Sizes};
+use crate::parts::{self, Plane, Sizes};
 use crate::roller::roller;
 use crate::tree::{level, u32, Record};
 
 /// A file's name in reports, and what writes it.
 pub type Corner = (&'static str, fn() -> Vec<u8>);
 
-pub const ALL: [Corner; 9] = [
+pub const ALL: [Corner; 10] = [
     ("a roller of 24 points, 11 steps and 2 lamps", || {
         roller(24, 11, 2, 16, 16)
     }),
@@ -24,6 +24,7 @@ pub const ALL: [Corner; 9] = [
     ("a level of 10,000,001 items", || many_items(10_000_001)),
     ("1,000,000 points", || many_points(1)),
     ("1,000,000 points of 1,024 components", || many_points(1024)),
+    ("1,024 components, planes of 2^64 - 1", all_covered),
 ];
 
 fn needed(sizes: Sizes, experiment: Record) -> Nd2 {
@@ -73,4 +74,13 @@ fn many_points(components: u64) -> Vec<u8> {
         level("uLoopPars", parts::counted(1_000_000)),
     ];
     needed(one_sample(components), level("SLxExperiment", records)).finish()
+}
+
+/// As many components as there may be, all of them covered by the first plane and once more by the second.
+fn all_covered() -> Vec<u8> {
+    let mut file = needed(one_sample(1024), parts::experiment(&[]));
+    let planes = ["first", "second"].map(|name| Plane::new(name, 255).covering(u64::MAX));
+    file.add(parts::CHANNELS, &parts::channels(&planes).encode());
+    file.add(&parts::frame_name(0), &parts::frame(&[7; 1024]));
+    file.finish()
 }

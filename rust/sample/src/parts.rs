@@ -91,14 +91,49 @@ pub fn calibration(size: f64) -> Record {
     level("SLxCalibration", vec![f64("dCalibration", size)])
 }
 
-/// Channels by name and colour, red in the low byte.
-pub fn channels(planes: &[(&str, u32)]) -> Record {
-    let plane = |(i, (name, color)): (usize, &(&str, u32))| {
-        let records = vec![text("sDescription", name), u32("uiColor", *color)];
-        level(&format!("a{i}"), records)
-    };
-    let planes = planes.iter().enumerate().map(plane).collect();
-    let all = level("sPicturePlanes", vec![level("sPlaneNew", planes)]);
+/// A plane of the channels: its name, its colour with red in the low byte, and how many components it says that it covers.
+#[derive(Clone, Copy, Debug)]
+pub struct Plane<'a> {
+    pub name: &'a str,
+    pub color: u32,
+    pub covers: Option<u64>,
+}
+
+impl<'a> Plane<'a> {
+    /// A plane that does not say how many components it covers.
+    pub fn new(name: &'a str, color: u32) -> Plane<'a> {
+        Plane {
+            name,
+            color,
+            covers: None,
+        }
+    }
+
+    /// The same plane, which says so.
+    pub fn covering(self, components: u64) -> Plane<'a> {
+        Plane {
+            covers: Some(components),
+            ..self
+        }
+    }
+
+    fn record(&self, name: &str) -> Record {
+        let mut records = vec![text("sDescription", self.name), u32("uiColor", self.color)];
+        records.extend(self.covers.map(|count| u64("uiCompCount", count)));
+        level(name, records)
+    }
+}
+
+/// The channels of these planes.
+pub fn channels(planes: &[Plane]) -> Record {
+    let named = planes.iter().enumerate();
+    let records = named.map(|(i, plane)| plane.record(&format!("a{i}")));
+    channels_in("sPlaneNew", records.collect())
+}
+
+/// Channels with any records in the level of the planes, whose name is sPlaneNew or sPlane.
+pub fn channels_in(name: &str, planes: Vec<Record>) -> Record {
+    let all = level("sPicturePlanes", vec![level(name, planes)]);
     level("SLxPictureMetadata", vec![all])
 }
 

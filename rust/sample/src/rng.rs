@@ -11,6 +11,11 @@ impl Rng {
         Rng { state: seed }
     }
 
+    /// Another generator, from where this one stands; what is drawn from it changes nothing that this one gives.
+    pub fn aside(&self) -> Rng {
+        Rng::new(!self.clone().word())
+    }
+
     pub fn word(&mut self) -> u64 {
         self.state = self.state.wrapping_add(0x9E37_79B9_7F4A_7C15);
         let mut z = self.state;

@@ -1,9 +1,9 @@
 //! A roller as a bench records it: points, focus steps and lamps. Each point is a scene, each focus step a z, and each
 //! lamp a component of every frame, with its own channel name and colour: 24 points, 11 steps and 2 lamps make
-//! 24 × 11 × 2 = 528 planes in 264 frames.
+//! 24 × 11 × 2 = 528 planes in 264 frames. A colour camera's components share one name and colour.
 
 use crate::file::Nd2;
-use crate::parts::{self, Sizes};
+use crate::parts::{self, Plane, Sizes};
 use crate::tree::Record;
 use std::io::{self, Write};
 
@@ -19,6 +19,8 @@ pub struct Roller {
     pub padding: u32,
     /// Whether the focus loop is the outer one.
     pub focus_outside: bool,
+    /// Whether one plane record covers all components, as a colour camera writes it.
+    pub one_record: bool,
     /// Micrometres per pixel.
     pub pixel: f64,
     /// Micrometres from one focus step to the next.
@@ -42,7 +44,7 @@ pub fn sample(point: u32, step: u32, lamp: u32, x: u32, y: u32) -> u16 {
 }
 
 impl Roller {
-    /// Rows have no padding, and the points are the outer loop.
+    /// Rows have no padding, the points are the outer loop, and each lamp has its own plane record.
     pub fn new(points: u32, steps: u32, lamps: u32, width: u32, height: u32) -> Roller {
         Roller {
             points,
@@ -52,6 +54,7 @@ impl Roller {
             height,
             padding: 0,
             focus_outside: false,
+            one_record: false,
             pixel: 0.325,
             step: 0.5,
         }
@@ -97,12 +100,16 @@ impl Roller {
         rows
     }
 
-    /// "lamp 0" in red, "lamp 1" in green, "lamp 2" in blue, and so on.
+    /// "lamp 0" in red, "lamp 1" in green, "lamp 2" in blue, and so on; or "colour camera" in white for all of them.
     fn channels(&self) -> Record {
+        if self.one_record {
+            let camera = Plane::new("colour camera", 0x00FF_FFFF);
+            return parts::channels(&[camera.covering(self.lamps as u64)]);
+        }
         let names: Vec<String> = (0..self.lamps).map(|i| format!("lamp {i}")).collect();
         let color = |i: usize| 0xFF << (8 * (i % 3));
         let lamps = names.iter().enumerate();
-        let planes: Vec<(&str, u32)> = lamps.map(|(i, n)| (n.as_str(), color(i))).collect();
+        let planes: Vec<Plane> = lamps.map(|(i, n)| Plane::new(n, color(i))).collect();
         parts::channels(&planes)
     }
 

@@ -164,15 +164,11 @@ pub fn channels(file: &[u8], summary: &Summary, table: &mut [u8], row: &mut [Cha
     table.fill(0);
     row.fill(Channel::default());
     let records = channel_records(file, summary, trees::room(table), row.len());
-    let fill = |records: Vec<Channel>| {
-        let lent = row.iter_mut().take(summary.components as usize);
-        lent.zip(records)
-            .for_each(|(place, record)| *place = record);
-    };
-    number(records.map(fill))
+    number(records.map(|records| row[..records.len()].copy_from_slice(&records)))
 }
 
-/// "20, 5, 19, 18"; "a missing or failing chunk or tree, 18 excepted, gives only empty ones".
+/// The records up to the last component that a plane covers: "20, 5, 19, 18"; "a missing or failing chunk or tree, 18
+/// excepted, gives only empty ones".
 fn channel_records(
     file: &[u8],
     summary: &Summary,
@@ -184,10 +180,16 @@ fn channel_records(
         return Err(CHANNEL_ROW);
     }
     match named_root(file, &map, channels::CHUNK_NAME, room) {
-        Ok(root) => Ok(channels::read(&root)),
+        Ok(root) => Ok(channels::read(&root, summary.components)),
         Err(TABLE) => Err(TABLE),
         Err(_) => Ok(Vec::new()),
     }
+}
+
+/// The tree of the channels, whatever table it takes.
+pub fn channel_root(file: &[u8], summary: &Summary) -> Result<Level, u32> {
+    let map = map_of(file, summary)?;
+    named_root(file, &map, channels::CHUNK_NAME, usize::MAX)
 }
 
 /// "Register: file, summary, buffer." "20, 5, 25 (a product past 2^64 − 1 is short)": no buffer is that long.

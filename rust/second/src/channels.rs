@@ -1,4 +1,5 @@
-//! "Channels": names and colours of the components.
+//! "Channels": names and colours of the components. Since the first change request a plane's record may cover several of
+//! them in turn.
 
 use crate::numbers::unsigned_field;
 use crate::values::{Level, Value};
@@ -17,16 +18,41 @@ pub struct Channel {
     pub blue: u64,
 }
 
-/// "SLxPictureMetadata, sPicturePlanes, level sPlaneNew, else sPlane: one record per child level"
-pub fn read(root: &Level) -> Vec<Channel> {
-    let planes = planes(root).map_or(&[][..], |level| &level.slots[..]);
-    let levels = planes.iter().filter_map(|slot| slot.value.as_level());
-    levels.map(channel).collect()
+/// The records of the components that planes cover: each plane's as often as it covers one, and none behind the last
+/// component.
+pub fn read(root: &Level, components: u64) -> Vec<Channel> {
+    let mut row = Vec::new();
+    for plane in planes(root) {
+        let left = components - row.len() as u64;
+        let covered = covers(plane).min(left);
+        row.resize(row.len() + covered as usize, channel(plane));
+    }
+    row
 }
 
-fn planes(root: &Level) -> Option<&Level> {
+/// Whether each plane says that it covers one component, or nothing of it.
+pub fn all_single(root: &Level) -> bool {
+    planes(root).all(|plane| count(plane).unwrap_or(1) == 1)
+}
+
+/// "SLxPictureMetadata, sPicturePlanes, level sPlaneNew, else sPlane: one record per child level"
+fn planes(root: &Level) -> impl Iterator<Item = &Level> {
+    let slots = parent(root).map_or(&[][..], |level| &level.slots[..]);
+    slots.iter().filter_map(|slot| slot.value.as_level())
+}
+
+fn parent(root: &Level) -> Option<&Level> {
     let all = root.level("SLxPictureMetadata")?.level("sPicturePlanes")?;
     all.level("sPlaneNew").or_else(|| all.level("sPlane"))
+}
+
+fn count(plane: &Level) -> Option<u64> {
+    unsigned_field(plane, "uiCompCount")
+}
+
+/// How many components a plane covers: one where it says nothing, or 0.
+fn covers(plane: &Level) -> u64 {
+    count(plane).unwrap_or(1).max(1)
 }
 
 fn channel(plane: &Level) -> Channel {

@@ -3,7 +3,7 @@
 mod common;
 
 use common::*;
-use sample::parts::{self, Sizes, FOCUS, POINTS, TIME};
+use sample::parts::{self, Plane, Sizes, FOCUS, POINTS, TIME};
 use sample::tree::{f64, level, raw, text, u32, Level, Record, Value};
 use second::refusal::*;
 use second::values::{self, Value as Read};
@@ -97,7 +97,8 @@ fn list_of_one_true() {
 
 #[test]
 fn colour() {
-    let file = with_more(&[(parts::CHANNELS, parts::channels(&[("", 0x0033_2211)]))]);
+    let plane = Plane::new("", 0x0033_2211);
+    let file = with_more(&[(parts::CHANNELS, parts::channels(&[plane]))]);
     let color = Channel {
         colored: 1,
         red: 0x11,
@@ -182,15 +183,9 @@ fn z_classes() {
 #[test]
 fn tempting() {
     let roller = sample::Roller {
-        points: 3,
-        steps: 2,
-        lamps: 2,
-        width: 3,
-        height: 2,
         padding: 5,
         focus_outside: true,
-        pixel: 0.325,
-        step: 0.5,
+        ..sample::Roller::new(3, 2, 2, 3, 2)
     };
     let file = roller.file();
     let expected = |point, step, lamp| -> Vec<u8> {

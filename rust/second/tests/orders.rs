@@ -3,7 +3,7 @@
 mod common;
 
 use common::*;
-use sample::parts::{self, Sizes, TIME};
+use sample::parts::{self, Plane, Sizes, TIME};
 use sample::tree::{raw, u32, u64};
 use second::refusal::*;
 use second::{Axis, Channel, Loop, Summary};
@@ -13,7 +13,7 @@ fn one_frame() -> (Vec<u8>, Summary) {
     let mut file = of_trees(&[
         (parts::ATTRIBUTES, parts::attributes(SIZES)),
         (parts::EXPERIMENT, parts::experiment(&[])),
-        (parts::CHANNELS, parts::channels(&[("lamp", 1)])),
+        (parts::CHANNELS, parts::channels(&[Plane::new("lamp", 1)])),
     ]);
     file.add("ImageDataSeq|0!", &parts::frame(&[1, 2, 3, 4]));
     let file = file.finish();

@@ -4,7 +4,7 @@ mod common;
 
 use common::*;
 use sample::file::{LEGACY as LEGACY_MARK, MAP_END, MAP_NAME, MARK};
-use sample::parts::{self, Sizes, CUSTOM, FOCUS, POINTS, SPECTRAL, TIME};
+use sample::parts::{self, Plane, Sizes, CUSTOM, FOCUS, POINTS, SPECTRAL, TIME};
 use sample::tree::{f64, i32, level, list, packed, raw, u32, u64, Record};
 use second::refusal::*;
 use second::{Channel, Summary};
@@ -207,7 +207,7 @@ fn rows_of_channels() {
     let file = of_trees(&[
         (parts::ATTRIBUTES, parts::attributes(sizes)),
         (parts::EXPERIMENT, parts::experiment(&[])),
-        (parts::CHANNELS, parts::channels(&[("lamp", 1)])),
+        (parts::CHANNELS, parts::channels(&[Plane::new("lamp", 1)])),
     ]);
     let file = file.finish();
     let summary = opened(&file);

@@ -1,9 +1,12 @@
 //! Random calibrations and channels.
 
-use super::numbers::{double, odd};
+use super::numbers::{double, field, odd};
 use super::Care;
 use crate::rng::Rng;
 use crate::tree::{f64, level, text, text_units, u32, u64, unnamed, Record};
+
+/// How many components a plane covers. Beside the planes it says nothing.
+const COUNT: &str = "uiCompCount";
 
 pub fn calibration(rng: &mut Rng, care: Care) -> Record {
     let size = match rng.below(6) {
@@ -34,14 +37,20 @@ pub fn channels(rng: &mut Rng, care: Care, components: u64) -> Record {
     level("SLxPictureMetadata", vec![planes])
 }
 
-/// The planes, some more or fewer than there are components; unnamed ones make a list and then count no more.
+/// The planes, some more or fewer than there are components; unnamed ones make a list and then count no more. In one of
+/// three levels they say how many components they cover, which is drawn aside: the other levels are what they would be.
 fn planes(rng: &mut Rng, name: &str, care: Care, components: u64) -> Record {
     let around = components.min(4) + rng.pick(&[0, 0, 0, 1]);
     let count = around.saturating_sub(rng.pick(&[0, 0, 1]));
     let listed = care != Care::Good && rng.one_in(6);
+    let aside = &mut rng.aside();
+    let covering = aside.one_in(3);
     let mut records = Vec::new();
     for i in 0..count {
-        let plane = plane(rng, &format!("a{i}"), care);
+        let mut plane = plane(rng, &format!("a{i}"), care);
+        if covering {
+            cover(aside, &mut plane, components);
+        }
         records.push(if listed { unnamed(plane) } else { plane });
         if rng.one_in(8) {
             records.push(u32("uiCount", i as u32));
@@ -53,7 +62,21 @@ fn planes(rng: &mut Rng, name: &str, care: Care, components: u64) -> Record {
             records.push(plane_of_no_level(rng, i));
         }
     }
+    if covering && aside.one_in(8) {
+        records.push(u32(COUNT, 3));
+    }
     level(name, records)
+}
+
+/// Lets most planes say how many components they cover: few, about all of them, or as many as a number can say, in any
+/// form, and now and then something that is no such number.
+fn cover(rng: &mut Rng, plane: &mut Record, components: u64) {
+    let about = (components + rng.below(3)).saturating_sub(1);
+    let count = rng.pick(&[0, 1, 1, 2, 2, 3, about, u64::MAX]);
+    let said = field(rng, COUNT, count, 4);
+    if let (Some(level), false) = (plane.level_mut(), rng.one_in(4)) {
+        level.records.push(said);
+    }
 }
 
 /// A later record of the same name takes the place of a plane.
