@@ -34,7 +34,8 @@ planesName = ascii "ImageMetadataSeqLV|0!"
 module _ (s t : List ℕ) (n most : ℕ) {a : Answer (List PlaneRecord)} {m : ℕ} {b : Answer (List Entry)} {p : Prepared} (held : t ≡ treeBy m b .buffer) where
   pub ready-given : (ps : List PlaneRecord) → a ≡ given ps → p .number ≡ 0 → Before s t (p .planes) (covered most ps) → Ready s t n most a m b p
   unfolding rowBy numberOf
-  ready-given ps e z (g, f) = rw e (record { number = z; stands = g; row = fitted-same n (covered most ps) (ahead s t (p .planes)) λ k. sym (f k); table = held })
+  ready-given ps e z (g, f) =
+      rw e (record { number = z; stands = g; row = fitted-same n (covered most ps) (ahead s t (p .planes)) λ k. sym (f k); table = held })
 
   module _ (q : p .planes ≡ noPlanes) where
     pub ready-refused : (x : ℕ) → a ≡ refused x → p .number ≡ x → Ready s t n most a m b p
@@ -47,13 +48,13 @@ module _ (s t : List ℕ) (n most : ℕ) {a : Answer (List PlaneRecord)} {m : �
     ready-empty e z = ready-given [] e z (none-left s t most q refl)
 
 -- the same of records and of a tree that are equal
-pub ready-same : {s t : List ℕ} {n most m : ℕ} {a c : Answer (List PlaneRecord)} {b d : Answer (List Entry)} {p : Prepared} → (a ≡ c) × (b ≡ d) → Ready s t n most c m d p
-    → Ready s t n most a m b p
+pub ready-same : {s t : List ℕ} {n most m : ℕ} {a c : Answer (List PlaneRecord)} {b d : Answer (List Entry)} {p : Prepared}
+    → (a ≡ c) × (b ≡ d) → Ready s t n most c m d p → Ready s t n most a m b p
 ready-same (e, f) r = rw (e, f) r
 
 -- refused before a tree is read: no records, and a table of zeros
-pub turned-away : {s t : List ℕ} {n most : ℕ} {a : Answer (List PlaneRecord)} {m : ℕ} {b : Answer (List Entry)} {p : Prepared} (x : ℕ) → (a ≡ refused x) × (b ≡ refused x)
-    → (p .number ≡ x) × (p .planes ≡ noPlanes) × (t ≡ zeros m) → Ready s t n most a m b p
+pub turned-away : {s t : List ℕ} {n most : ℕ} {a : Answer (List PlaneRecord)} {m : ℕ} {b : Answer (List Entry)} {p : Prepared} (x : ℕ)
+    → (a ≡ refused x) × (b ≡ refused x) → (p .number ≡ x) × (p .planes ≡ noPlanes) × (t ≡ zeros m) → Ready s t n most a m b p
 unfolding treeBy
 turned-away {s} {t} {n} {most} x (e, f) (z, q, g) = ready-refused s t n most (rw f g) q x e z
 

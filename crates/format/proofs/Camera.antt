@@ -81,5 +81,7 @@ pub camera-channels :
       table = replicate 864 0;
       row = redGreen ∷ redGreen ∷ emptyChannel ∷ blue ∷ others ∷ others ∷ emptyChannel ∷ [];
     }
-unfolding camera cameraSummary ascii leBytes endMark mapName channelsCall refuseIf badSummary andThen mapEntries part same orRefuse offsetOf chunkData namedTree within treeIn planeRecords planesLevel planeLevels planeRecord coversOf covered channelOf emptyChannel asLevel field slotsOf nameOf units lossy leAt bind unsigned below32 putNamed putUnnamed elements slotValue valueAt childLevels
+unfolding camera cameraSummary ascii leBytes endMark mapName channelsCall refuseIf badSummary andThen mapEntries part same orRefuse offsetOf chunkData
+    namedTree within treeIn planeRecords planesLevel planeLevels planeRecord coversOf covered channelOf emptyChannel asLevel field slotsOf nameOf
+    units lossy leAt bind unsigned below32 putNamed putUnnamed elements slotValue valueAt childLevels
 camera-channels = refl

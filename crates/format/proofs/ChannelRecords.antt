@@ -145,7 +145,8 @@ module _ (s : List ℕ) (u : Summary) where
   at-length (d ∷ cs) zero c e = omega arith
   at-length (d ∷ cs) (suc i) c e = let h = at-length cs i c e in omega arith
 
-  row-at : {ps : List PlaneRecord} → PlanesRead s u ps → (n k : ℕ) (c : Channel) → getElem? (fitted n (covered (u .components) ps)) k ≡ some c → RecordAt s u k c
+  row-at : {ps : List PlaneRecord} → PlanesRead s u ps → (n k : ℕ) (c : Channel)
+      → getElem? (fitted n (covered (u .components) ps)) k ≡ some c → RecordAt s u k c
   unfolding covered
   row-at (none-read f) n k c e = ⊎-elim (λ q. absurd (none≢some q)) (λ (_, y). unstated f y) (fitted-at n [] k c e .1)
   row-at (read {es = es} {is = is} x) n k c e = ⊎-elim taken empty (fitted-at n (covered (u .components) ps) k c e .1)

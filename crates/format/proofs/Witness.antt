@@ -113,11 +113,17 @@ pairSummary =
 -- ---- what is shown of it
 
 pub pair-opened : opened pair 22 ≡ given pairSummary
-unfolding pair pairSummary ascii leBytes endMark mapName opened andThen refuseIf leAt same part chunkData mapEntries orRefuse offsetOf within treeIn attributes asLevel field slotsOf nameOf units lossy bind unsigned signed below32 uncompressed badBits badShape putNamed putUnnamed elements slotValue valueAt experiment said loopParams orZero childLevels append judge hasAxis summaryOf calibration zStep zFloat unstated toSigned ofBits round lt ne float narrow magnitude positive finite zClass sizeOf pointCount pixelSize
+unfolding pair pairSummary ascii leBytes endMark mapName opened andThen refuseIf leAt same part chunkData mapEntries orRefuse offsetOf within treeIn
+    attributes asLevel field slotsOf nameOf units lossy bind unsigned signed below32 uncompressed badBits badShape putNamed putUnnamed elements
+    slotValue valueAt experiment said loopParams orZero childLevels append judge hasAxis summaryOf calibration zStep zFloat unstated toSigned ofBits
+    round lt ne float narrow magnitude positive finite zClass sizeOf pointCount pixelSize
 pair-opened = refl
 
 pub pair-short : opened pair 21 ≡ refused 18
-unfolding pair ascii leBytes endMark mapName opened andThen refuseIf leAt same part chunkData mapEntries orRefuse offsetOf within treeIn attributes asLevel field slotsOf nameOf units lossy bind unsigned signed below32 uncompressed badBits badShape putNamed putUnnamed elements slotValue valueAt experiment said loopParams orZero childLevels append judge hasAxis summaryOf calibration zStep zFloat unstated toSigned ofBits round lt ne float narrow magnitude positive finite zClass sizeOf pointCount pixelSize
+unfolding pair ascii leBytes endMark mapName opened andThen refuseIf leAt same part chunkData mapEntries orRefuse offsetOf within treeIn attributes
+    asLevel field slotsOf nameOf units lossy bind unsigned signed below32 uncompressed badBits badShape putNamed putUnnamed elements slotValue valueAt
+    experiment said loopParams orZero childLevels append judge hasAxis summaryOf calibration zStep zFloat unstated toSigned ofBits round lt ne float
+    narrow magnitude positive finite zClass sizeOf pointCount pixelSize
 pair-short = refl
 
 pub pair-joined : Joined pair pairSummary
@@ -167,7 +173,9 @@ pub pair-channels :
           ∷ emptyChannel
           ∷ [];
     }
-unfolding pair pairSummary ascii leBytes endMark mapName channelsCall refuseIf badSummary andThen mapEntries part same orRefuse offsetOf chunkData namedTree within treeIn planeRecords planesLevel planeLevels planeRecord coversOf covered channelOf emptyChannel asLevel field slotsOf nameOf units lossy leAt bind unsigned below32 putNamed putUnnamed elements slotValue valueAt childLevels
+unfolding pair pairSummary ascii leBytes endMark mapName channelsCall refuseIf badSummary andThen mapEntries part same orRefuse offsetOf chunkData
+    namedTree within treeIn planeRecords planesLevel planeLevels planeRecord coversOf covered channelOf emptyChannel asLevel field slotsOf nameOf
+    units lossy leAt bind unsigned below32 putNamed putUnnamed elements slotValue valueAt childLevels
 pair-channels = refl
 
 -- three entries are lent, and the calibration's tree has two
@@ -182,11 +190,15 @@ pub pair-tree :
           ∷ [])
           ++ replicate 48 0;
     }
-unfolding pair pairSummary ascii leBytes endMark mapName treeCall tableBytes refuseIf badSummary andThen mapEntries part same orRefuse offsetOf chunkData namedTree within treeIn leAt
+unfolding pair pairSummary ascii leBytes endMark mapName treeCall tableBytes refuseIf badSummary andThen mapEntries part same orRefuse offsetOf
+    chunkData namedTree within treeIn leAt
 pair-tree = refl
 
 pub pair-border :
     borderCall pair (replicate 1056 7) 1 1 1 0 lent
     ≡ record { number = 0; table = replicate 1056 0; samples = 1 ∷ 3 ∷ 3 ∷ 3 ∷ 5 ∷ 3 ∷ 7 ∷ 3 ∷ 77 ∷ [] }
-unfolding pair borderCall ascii leBytes endMark mapName opened andThen refuseIf leAt same part chunkData mapEntries orRefuse offsetOf within treeIn attributes asLevel field slotsOf nameOf units lossy bind unsigned signed below32 uncompressed badBits badShape putNamed putUnnamed elements slotValue valueAt experiment said loopParams orZero childLevels append judge hasAxis summaryOf calibration zStep zFloat unstated toSigned ofBits round lt ne float narrow magnitude positive finite zClass sizeOf pointCount pixelSize planeCall badSummary countOf seqIndex
+unfolding pair borderCall ascii leBytes endMark mapName opened andThen refuseIf leAt same part chunkData mapEntries orRefuse offsetOf within treeIn
+    attributes asLevel field slotsOf nameOf units lossy bind unsigned signed below32 uncompressed badBits badShape putNamed putUnnamed elements
+    slotValue valueAt experiment said loopParams orZero childLevels append judge hasAxis summaryOf calibration zStep zFloat unstated toSigned ofBits
+    round lt ne float narrow magnitude positive finite zClass sizeOf pointCount pixelSize planeCall badSummary countOf seqIndex
 pair-border = refl

@@ -1,8 +1,8 @@
 //! Document 01 in plain Rust, over byte slices: every call and every lent byte.
 //!
-//! Written from the documents alone, so that the proved reader and the original can be held against it. One file for
-//! each of document 01's headings; `calls` has the calls themselves. Of document 02 it has the first change request, in
-//! `channels`.
+//! Written from the documents (docs/DIFFERENCES.md says what else was at hand), so that the proved reader and the original
+//! can be held against it. One file for each of document 01's headings; `calls` has the calls themselves. Of document 02 it
+//! has the first change request, in `channels`.
 
 pub mod attributes;
 pub mod bytes;
