@@ -1,6 +1,6 @@
 // The C interface: every call over numbers and byte slices, with summaries and channel records as lent bytes. include/nd2.h declares it.
 use channels::planes::Planes;
-use channels::planes::next_plane;
+use channels::planes::next_component;
 use channels::prepare;
 use cursor::clear;
 use format::Summary;
@@ -130,7 +130,7 @@ fn put_records(file: &[u8], table: &[u8], first: Planes, row: &mut [u8], count: 
     while k < count {
         let c = p.channel;
         put_channel(row, CHANNEL_BYTES * k, c);
-        p = next_plane(file, table, p);
+        p = next_component(file, table, p);
         k += 1;
     }
 }

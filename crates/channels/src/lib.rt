@@ -8,7 +8,7 @@ use format::Summary;
 use format::refusal;
 use named_tree::read_named;
 use planes::Planes;
-use planes::next_plane;
+use planes::next_component;
 use planes::no_planes;
 use planes::planes_in;
 use record::no_channel;
@@ -130,7 +130,7 @@ fn record_at(file: &[u8], table: &[u8], first: Planes, row: usize, i: usize) -> 
     let mut p = first;
     let mut k = 0;
     while k < i {
-        p = next_plane(file, table, p);
+        p = next_component(file, table, p);
         k += 1;
     }
     p.channel
@@ -166,7 +166,7 @@ fn pass(file: &[u8], table: &mut [u8], p: Planes) -> Planes
     requires { ⌜ Stands (now file) (now table) p ⌝ }
     ensures { λ r. ⌜ Follows (now (file .entry)) (now (table .entry)) p r × (now (table .exit) ≡ now (table .entry)) ⌝ }
 {
-    next_plane(file, table, p)
+    next_component(file, table, p)
 }
 
 // Fills the row with the records of a walk, and clears the table that it goes by.

@@ -95,7 +95,7 @@ fn planes_from(file: &[u8], table: &[u8], used: usize, turn: Turn, most: u64) ->
 }
 
 // The components after the next one.
-pub fn next_plane(file: &[u8], table: &[u8], p: Planes) -> Planes
+pub fn next_component(file: &[u8], table: &[u8], p: Planes) -> Planes
     requires { ⌜ Stands (now file) (now table) p ⌝ }
     ensures { λ r. ⌜ Follows (now (file .entry)) (now (table .entry)) p r ⌝ }
 {

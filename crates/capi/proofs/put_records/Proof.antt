@@ -36,8 +36,8 @@ put-channel-requires c κs =
     let st = l .before .before .before .before in
     omega (arith, l .loop, st .pre)
 
-next-plane-requires : tie.Need-next-plane-requires Inv-loop μ-loop
-next-plane-requires c κs = c .before .before .before .before .before .before .loop .inv .0 .stands
+next-component-requires : tie.Need-next-component-requires Inv-loop μ-loop
+next-component-requires c κs = c .before .before .before .before .before .before .loop .inv .0 .stands
 
 add-k : tie.Need-add-k Inv-loop μ-loop
 add-k c =
@@ -54,7 +54,7 @@ loop-again c =
     let a = l .before .before .before .before in
     let cs = fitted (a .args .count) (ahead (a .args .file .now) (a .args .table .now) (a .args .first)) in
     let n = fitted-length (a .args .count) (ahead (a .args .file .now) (a .args .table .now) (a .args .first)) in (
-      on-next _ _ _ (l .loop .inv .0) (c .next-plane .ensures),
+      on-next _ _ _ (l .loop .inv .0) (c .next-component .ensures),
       w .put-channel .ensures
           ∙ next-stored channelBytes 56 channel-length cs (a .args .row .now) (l .loop .row) (l .loop .k) _ emptyChannel (l .loop .inv .1) (omega (arith, l .loop, n))
           (omega (arith, n, a .pre)) (on-row _ _ _ (l .loop .inv .0) (a .args .count) (l .loop .k) refl (omega (arith, l .loop))),
@@ -82,7 +82,7 @@ put-records-spec =
     loop-holds
     mul-put-channel
     put-channel-requires
-    next-plane-requires
+    next-component-requires
     add-k
     loop-less
     loop-again

@@ -22,8 +22,8 @@ returns c = c .no-channel .ensures ∙ past-row _ _ _ (c .before .if1 .taken)
 loop-holds : tie.Need-loop-holds Inv-loop μ-loop
 loop-holds c = (omega arith, on-first _ _ _ (c .before .before .before .pre))
 
-next-plane-requires : tie.Need-next-plane-requires Inv-loop μ-loop
-next-plane-requires c κs = c .before .loop .inv .1 .stands
+next-component-requires : tie.Need-next-component-requires Inv-loop μ-loop
+next-component-requires c κs = c .before .loop .inv .1 .stands
 
 add-k : tie.Need-add-k Inv-loop μ-loop
 add-k c = record { fits = omega arith }
@@ -32,7 +32,7 @@ loop-less : tie.Need-loop-less Inv-loop μ-loop
 loop-less c = omega arith
 
 loop-again : tie.Need-loop-again Inv-loop μ-loop
-loop-again c = (omega arith, on-next _ _ _ (c .before .before .loop .inv .1) (c .next-plane .ensures))
+loop-again c = (omega arith, on-next _ _ _ (c .before .before .loop .inv .1) (c .next-component .ensures))
 
 returns-2 : tie.Need-returns-2 Inv-loop μ-loop
 returns-2 c =
@@ -48,7 +48,7 @@ record-at-spec =
     no-channel-requires
     returns
     loop-holds
-    next-plane-requires
+    next-component-requires
     add-k
     loop-less
     loop-again

@@ -48,7 +48,7 @@ module _ (s : List ℕ) (es : List Entry) where
 
   -- ---- the components that it covers
 
-  -- how many: what its uiCompCount reads as, and 1 where that is 0, or nothing that reads as a number
+  -- how many: what its uiCompCount reads as; 1 where it reads as 0, or as no number
   pub data Covers (i : ℕ) : ℕ → Type 0 where
     many : {n : ℕ} → Unsigned s es i (ascii "uiCompCount") n → 0 < n → Covers i n
     zero : Unsigned s es i (ascii "uiCompCount") 0 → Covers i 1

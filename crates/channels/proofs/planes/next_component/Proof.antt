@@ -1,9 +1,9 @@
--- `channels::planes::next_plane`: the next component of the same plane, or those of the planes behind it.
+-- `channels::planes::next_component`: the next component of the same plane, or those of the planes behind it.
 use mathlib.Core.Path.{refl}
 use Rattle.channels.proofs.Rows.{same-plane, next-planes}
 use borrow.Author.Needs.{needs}
-use Rattle.channels.proofs.planes.next_plane.Statement.{statement}
-use Rattle.channels.proofs.planes.next_plane.Tie as tie
+use Rattle.channels.proofs.planes.next_component.Statement.{statement}
+use Rattle.channels.proofs.planes.next_component.Tie as tie
 
 planes-from-requires : tie.Need-planes-from-requires
 planes-from-requires c κs = search needs
@@ -19,5 +19,5 @@ returns-2 c =
     let e = c .before .before in
     same-plane _ _ (e .before .before .before .before .pre) (e .if1 .left) refl
 
-pub next-plane-spec : {M : Type 1} → statement M
-next-plane-spec = tie.close (tie.spec planes-from-requires returns sub-t7 returns-2)
+pub next-component-spec : {M : Type 1} → statement M
+next-component-spec = tie.close (tie.spec planes-from-requires returns sub-t7 returns-2)
