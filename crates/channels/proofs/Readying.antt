@@ -123,27 +123,34 @@ module _ (s : List ℕ) (u : Summary) (room n : ℕ) where
   abbrev listed : (es : List MapEntry) → treeUnder s room (given (offsetOf (mapOf s u) planesName es)) ≡ treeOf es
   listed es = under-listed s room (mapOf s u) planesName es
 
+  -- the planes of that tree
+  abbrev planesBy : List MapEntry → Answer (List PlaneRecord)
+  planesBy es = recordsBy s (treeOf es)
+
+  abbrev planesUnder : Answer (Option ℕ) → Answer (List PlaneRecord)
+  planesUnder x = recordsBy s (treeUnder s room x)
+
+  abbrev planes-listed : (es : List MapEntry) → planesUnder (given (offsetOf (mapOf s u) planesName es)) ≡ planesBy es
+  planes-listed es = ap (recordsBy s) (listed es)
+
   -- both are refused with the number x
   abbrev Both : ℕ → Type 0
   Both x = (recordsOf s u room n ≡ refused x) × (planesTree s u room n ≡ refused x)
 
   pub bad-summary : badSummary s u ≡ true → Both why.summary
   unfolding recordsOf planesTree
-  bad-summary e = (by-summary s u n (λ es. recordsBy s (treeOf es)) e, by-summary s u n treeOf e)
+  bad-summary e = (by-summary s u n planesBy e, by-summary s u n treeOf e)
 
   module _ (g : badSummary s u ≡ false) {l : Answer (Option ℕ)} (q : l ≡ findIn (mapOf s u) planesName) where
     pub no-map : l ≡ refused why.map → Both why.map
     unfolding recordsOf planesTree
-    no-map e =
-        (by-map s u n (λ es. recordsBy s (treeOf es)) (λ x. recordsBy s (treeUnder s room x)) (λ es. ap (recordsBy s) (listed es)) g q e, by-map s u n treeOf (treeUnder s room) listed g q e)
+    no-map e = (by-map s u n planesBy planesUnder planes-listed g q e, by-map s u n treeOf (treeUnder s room) listed g q e)
 
     module _ (found : (o : Option ℕ) × (l ≡ given o)) where
       pub short-row : n < u .components → Both why.channelRow
       unfolding recordsOf planesTree
-      short-row f =
-          (by-row s u n (λ es. recordsBy s (treeOf es)) (λ x. recordsBy s (treeUnder s room x)) (λ es. ap (recordsBy s) (listed es)) g q found f, by-row s u n treeOf (treeUnder s room) listed g q found f)
+      short-row f = (by-row s u n planesBy planesUnder planes-listed g q found f, by-row s u n treeOf (treeUnder s room) listed g q found f)
 
       pub read-on : u .components ≤ n → (recordsOf s u room n ≡ recordsBy s (treeUnder s room l)) × (planesTree s u room n ≡ treeUnder s room l)
       unfolding recordsOf planesTree
-      read-on f =
-          (goes-on s u n (λ es. recordsBy s (treeOf es)) (λ x. recordsBy s (treeUnder s room x)) (λ es. ap (recordsBy s) (listed es)) g q found f, goes-on s u n treeOf (treeUnder s room) listed g q found f)
+      read-on f = (goes-on s u n planesBy planesUnder planes-listed g q found f, goes-on s u n treeOf (treeUnder s room) listed g q found f)

@@ -52,14 +52,16 @@ loop-again c =
     let w = c .before .before .before in
     let l = w .before .before .before .before in
     let a = l .before .before .before .before in
-    let cs = fitted (a .args .count) (ahead (a .args .file .now) (a .args .table .now) (a .args .first)) in
-    let n = fitted-length (a .args .count) (ahead (a .args .file .now) (a .args .table .now) (a .args .first)) in (
-      on-next _ _ _ (l .loop .inv .0) (c .next-component .ensures),
+    let i = l .loop in
+    let ps = ahead (a .args .file .now) (a .args .table .now) (a .args .first) in
+    let cs = fitted (a .args .count) ps in
+    let n = fitted-length (a .args .count) ps in (
+      on-next _ _ _ (i .inv .0) (c .next-component .ensures),
       w .put-channel .ensures
-          ∙ next-stored channelBytes 56 channel-length cs (a .args .row .now) (l .loop .row) (l .loop .k) _ emptyChannel (l .loop .inv .1) (omega (arith, l .loop, n))
-          (omega (arith, n, a .pre)) (on-row _ _ _ (l .loop .inv .0) (a .args .count) (l .loop .k) refl (omega (arith, l .loop))),
-      w .put-channel .kept .0 ∙ l .loop .inv .2,
-      omega (arith, l .loop),
+          ∙ next-stored channelBytes 56 channel-length cs (a .args .row .now) (i .row) (i .k) _ emptyChannel (i .inv .1) (omega (arith, i, n))
+          (omega (arith, n, a .pre)) (on-row _ _ _ (i .inv .0) (a .args .count) (i .k) refl (omega (arith, i))),
+      w .put-channel .kept .0 ∙ i .inv .2,
+      omega (arith, i),
     )
 
 same-length : tie.Need-same-length Inv-loop μ-loop

@@ -35,7 +35,9 @@ enum-known-i c = search needs
 -- the next child level, and where the walk stands after it
 module _ (c : tie.After-known-told) where
   child : let a = c .before .before .before .before .before .before .before .args in
-      NextOf (now (a .file)) (entryIn (now (a .table))) (a .used) (restOf (now (a .file)) (entryIn (now (a .table))) (a .used) (a .turn)) (Child (c .before .i .given .0 .0) (c .before .i .given .0 .1 .0))
+      let e = entryIn (now (a .table)) in
+      let i = c .before .i .given .0 in
+      NextOf (now (a .file)) e (a .used) (restOf (now (a .file)) e (a .used) (a .turn)) (Child (i .0) (i .1 .0))
   child = rw (c .before .i .given .1) at (c .before .before .before .next-child .ensures)
 
 covers-of-requires : tie.Need-covers-of-requires

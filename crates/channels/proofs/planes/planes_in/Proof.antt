@@ -26,7 +26,9 @@ enum-known-i : tie.Need-enum-known-i
 enum-known-i c = search needs
 
 children-requires : tie.Need-children-requires
-children-requires c κs = (c .before .before .before .before .before .before .pre .rows, at-within _ _ _ (c .before .i .given .1) (c .before .before .before .planes-level .ensures .1))
+children-requires c κs =
+    let d = c .before .before .before in
+    (d .before .before .before .pre .rows, at-within _ _ _ (c .before .i .given .1) (d .planes-level .ensures .1))
 
 planes-from-requires : tie.Need-planes-from-requires
 planes-from-requires c κs =
@@ -35,7 +37,10 @@ planes-from-requires c κs =
 
 returns : tie.Need-returns
 unfolding found
-returns c = none-left _ _ (c .before .before .before .before .before .before .args .most) (c .no-planes .ensures) (planes-none _ _ (sym (ap found (c .before .enum-told .given .1)) ∙ c .before .before .before .planes-level .ensures .0))
+returns c =
+    let d = c .before .before .before in
+    let e = planes-none _ _ (sym (ap found (c .before .enum-told .given .1)) ∙ d .planes-level .ensures .0) in
+    none-left _ _ (d .before .before .before .args .most) (c .no-planes .ensures) e
 
 returns-2 : tie.Need-returns-2
 unfolding found fieldMeaning meaning
