@@ -10,7 +10,7 @@ use Rattle.format.proofs.ChannelCalls.{channels-accepted, channels-refused}
 use Rattle.format.proofs.ChannelRecords.{channels-records}
 use Rattle.format.proofs.Demands.{first}
 use Rattle.format.specs.Answer.{Answer}
-use Rattle.format.specs.Bytes.{leBytes, over, zeros}
+use Rattle.format.specs.Bytes.{leBytes, over, zeros, each}
 use Rattle.format.specs.Trees.{roomIn}
 use Rattle.format.specs.Channels.{emptyChannel, fitted}
 use Rattle.format.specs.Calls.Channels.{recordsOf, channelsCall}
@@ -23,7 +23,7 @@ use Rattle.format.specs.declared.Summary.{Summary}
 use Rattle.channels.specs.Ahead.{ahead}
 use Rattle.channels.specs.Ready.{Ready}
 use Rattle.channels.specs.declared.Prepared.{Prepared}
-use Rattle.layout.specs.Layout.{each, channelBytes, channelRowBytes}
+use Rattle.layout.specs.Layout.{channelBytes, channelRowBytes}
 use Rattle.capi.specs.RowBytes.{RowRecorded}
 use Rattle.capi.specs.OnBytes.{channelRow}
 

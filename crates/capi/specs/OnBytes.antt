@@ -5,16 +5,17 @@ use mathlib.Core.Option.{Option, none, some}
 use mathlib.Core.List.{List}
 use lib.ListN.{length, replicate}
 use lib.Dec.{eqb}
-use Rattle.format.specs.Bytes.{zeros, over}
+use Rattle.format.specs.Bytes.{zeros, over, each}
 use Rattle.format.specs.Refusals as why
 use Rattle.format.specs.Calls.Open.{openCall}
 use Rattle.format.specs.Calls.Plane.{Outcome, planeCall}
+use Rattle.format.specs.Calls.Sheet.{sheetCall}
 use Rattle.format.specs.Calls.Tree.{treeCall}
 use Rattle.format.specs.Channels.{emptyChannel}
 use Rattle.format.specs.Calls.Channels.{channelsCall}
 use Rattle.format.specs.Calls.Register.{registerCall}
 use Rattle.format.specs.declared.Summary.{Summary}
-use Rattle.layout.specs.Layout.{each, summaryFrom, channelRowBytes}
+use Rattle.layout.specs.Layout.{summaryFrom, channelRowBytes}
 
 -- what a call answers on the summary that the bytes say; `bad` is what the lent buffer holds where they say none
 unfoldable pub onSummary : List ℕ → (Summary → Outcome) → Option Summary → Outcome
@@ -24,6 +25,10 @@ onSummary bad call (some u) = call u
 unfoldable pub planeOn : List ℕ → List ℕ → ℕ → ℕ → ℕ → ℕ → List ℕ → Outcome
 unfolding onSummary summaryFrom planeCall
 planeOn file summary scene t c z samples = onSummary samples (λ u. planeCall file u scene t c z samples) (summaryFrom summary)
+
+unfoldable pub sheetOn : List ℕ → List ℕ → ℕ → ℕ → ℕ → ℕ → List ℕ → Outcome
+unfolding onSummary summaryFrom sheetCall
+sheetOn file summary scene t c z lent = onSummary lent (λ u. sheetCall file u scene t c z lent) (summaryFrom summary)
 
 unfoldable pub treeOn : List ℕ → List ℕ → List ℕ → List ℕ → Outcome
 unfolding onSummary summaryFrom treeCall

@@ -13,6 +13,8 @@ use layout::summary_from;
 use open::open;
 use plane::plane;
 use register::register;
+use sheet::sheet;
+use sheet::sheet_read;
 use tree_call::tree;
 ghost use mathlib.Core.Path.{_≡_};
 ghost use mathlib.Core.Option.{some};
@@ -27,15 +29,18 @@ ghost use Rattle.format.specs.Grammar.File.{Joined};
 ghost use Rattle.format.specs.Refused.Order.{First, FirstAt};
 ghost use Rattle.format.specs.Refused.Open.{OpenRefusal, openOrder};
 ghost use Rattle.format.specs.Refused.Summary.{Sound};
+ghost use Rattle.format.specs.Calls.Sheet.{sheetReadCall};
 ghost use Rattle.format.specs.Refused.Plane.{PlaneRefusal, planeOrder};
+ghost use Rattle.format.specs.Refused.Sheet.{SheetRefusal, sheetOrder, SheetReadRefusal, sheetReadOrder};
 ghost use Rattle.format.specs.Refused.Tree.{TreeRefusal, treeOrder};
 ghost use Rattle.format.specs.Refused.Channels.{ChannelsRefusal, channelsOrder};
 ghost use Rattle.format.specs.Refused.Register.{RegisterRefusal, registerOrder, Registered};
-ghost use Rattle.format.specs.Sentences.{Refuses, OpensExactly, Different, PlaneCopied, TreeEntered};
+ghost use Rattle.format.specs.Sentences.{Refuses, AcceptedUnless, OpensExactly, Different, PlaneCopied, SheetWritten, SheetTaken, TreeEntered};
+ghost use Rattle.sheet.specs.Sentences.{PlaneOn, Blank, TurnedAway};
 ghost use Rattle.channels.specs.Ahead.{ahead, Stands};
 ghost use Rattle.layout.specs.Layout.{summaryBytes, summaryFrom, channelRowBytes};
 ghost use Rattle.capi.specs.RowBytes.{RowRecorded};
-ghost use Rattle.capi.specs.OnBytes.{openOn, planeOn, treeOn, channelRow, channelsOn, registerOn};
+ghost use Rattle.capi.specs.OnBytes.{openOn, planeOn, sheetOn, treeOn, channelRow, channelsOn, registerOn};
 ghost use Rattle.capi.specs.Said.{Said, WhereSaid, Unsaid, AcceptedOn};
 
 // Opens a file, and stores its summary: 0, or the number of the first refusal and a summary of zeros. The table is all zero afterwards.
@@ -94,6 +99,65 @@ pub extern "C" fn nd2_plane(
         return plane(file, u, scene, t, c, z, samples);
     }
     refusal::SUMMARY
+}
+
+// The sheet of the plane of component c at a point, into the lent bytes; 0, or the number of the first refusal and no byte changed.
+#[no_mangle]
+pub extern "C" fn nd2_sheet(
+    file: &[u8],
+    summary: &[u8],
+    scene: u64,
+    t: u64,
+    c: u64,
+    z: u64,
+    lent: &mut [u8],
+) -> u32
+    ensures number { λ r. ⌜ r ≡ sheetOn (now (file .entry)) (now (summary .entry)) scene t c z (now (lent .entry)) .number ⌝ }
+    ensures buffer { λ _. ⌜ now (lent .exit) ≡ sheetOn (now (file .entry)) (now (summary .entry)) scene t c z (now (lent .entry)) .buffer ⌝ }
+    ensures untouched { λ r. ⌜ (Refuses r → now (lent .exit) ≡ now (lent .entry)) ⌝ }
+    ensures first { λ r. ⌜ WhereSaid (now (summary .entry))
+        (λ u. First (SheetRefusal (now (file .entry)) u scene t c z (now (lent .entry))) sheetOrder r) ⌝ }
+    ensures unsaid { λ r. ⌜ Unsaid (now (summary .entry)) r ⌝ }
+    ensures accepted { λ r. ⌜ AcceptedOn (now (summary .entry)) (λ u. SheetRefusal (now (file .entry)) u scene t c z (now (lent .entry))) r ⌝ }
+    ensures written { λ r. ⌜ (r ≡ 0 → Said (now (summary .entry))
+        (λ u. SheetWritten (now (file .entry)) u scene t c z (now (lent .entry)) (now (lent .exit)))) ⌝ }
+    ensures plane { λ r. ⌜ (r ≡ 0 → Said (now (summary .entry)) (λ u. PlaneOn (now (file .entry)) u scene t c z (now (lent .exit)))) ⌝ }
+{
+    let laid = summary_from(summary);
+    if laid.ok {
+        let u = laid.summary;
+        return sheet(file, u, scene, t, c, z, lent);
+    }
+    refusal::SUMMARY
+}
+
+// The samples of a sheet into the lent bytes, and its sizes and bits; 0, or the number of the first refusal, no byte changed and the three numbers 0.
+#[no_mangle]
+pub extern "C" fn nd2_sheet_read(
+    lent: &[u8],
+    samples: &mut [u8],
+    width: &mut u64,
+    height: &mut u64,
+    bits: &mut u64,
+) -> u32
+    ensures number { λ r. ⌜ r ≡ sheetReadCall (now (lent .entry)) (now (samples .entry)) .number ⌝ }
+    ensures width { λ _. ⌜ now (width .exit) ≡ sheetReadCall (now (lent .entry)) (now (samples .entry)) .width ⌝ }
+    ensures height { λ _. ⌜ now (height .exit) ≡ sheetReadCall (now (lent .entry)) (now (samples .entry)) .height ⌝ }
+    ensures bits { λ _. ⌜ now (bits .exit) ≡ sheetReadCall (now (lent .entry)) (now (samples .entry)) .bits ⌝ }
+    ensures buffer { λ _. ⌜ now (samples .exit) ≡ sheetReadCall (now (lent .entry)) (now (samples .entry)) .samples ⌝ }
+    ensures first { λ r. ⌜ First (SheetReadRefusal (now (lent .entry)) (now (samples .entry))) sheetReadOrder r ⌝ }
+    ensures accepted { λ r. ⌜ AcceptedUnless (SheetReadRefusal (now (lent .entry)) (now (samples .entry))) r ⌝ }
+    ensures taken { λ r. ⌜ (r ≡ 0
+        → SheetTaken (now (lent .entry)) (now (width .exit)) (now (height .exit)) (now (bits .exit)) (now (samples .entry)) (now (samples .exit))) ⌝ }
+    ensures layout { λ r. ⌜ TurnedAway (now (lent .entry)) r ⌝ }
+    ensures untouched { λ r. ⌜ (Refuses r → now (samples .exit) ≡ now (samples .entry)) ⌝ }
+    ensures zero { λ r. ⌜ (Refuses r → Blank (now (width .exit)) (now (height .exit)) (now (bits .exit))) ⌝ }
+{
+    let said = sheet_read(lent, samples);
+    *width = said.width;
+    *height = said.height;
+    *bits = said.bits;
+    said.number
 }
 
 // The entries of the tree under a name, zeros behind them; 0, or the number of the first refusal and a table of zeros.

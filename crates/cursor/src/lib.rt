@@ -41,6 +41,15 @@ pub fn le8(s: &[u8], at: usize) -> u64
     le4(s, at) + 4294967296 * le4(s, at + 4)
 }
 
+// Stores v in the two bytes at `at`.
+pub fn put2(d: &mut [u8], at: usize, v: u64)
+    requires { ⌜ at + 2 ≤ length (now d) ⌝ }
+    ensures { λ _. ⌜ now (d .exit) ≡ sets (now (d .entry)) at (leBytes 2 v) ⌝ }
+{
+    d[at] = (v % 256) as u8;
+    d[at + 1] = (v / 256 % 256) as u8;
+}
+
 // Stores v in the four bytes at `at`.
 pub fn put4(d: &mut [u8], at: usize, v: u64)
     requires { ⌜ (at + 4 ≤ length (now d)) × (v < 2 ^ 32) ⌝ }

@@ -6,7 +6,7 @@ use mathlib.Core.List.{List, [], _∷_, _++_}
 use native.Mathlib.Omega.{arith}
 use native.Mathlib.Nat.{add-zero, zero-add, add-suc, suc-add, mul-assoc, pow-suc, pow-succ', pow-le-pow-right, div-one, div-div-eq-div-mul, div-lt-iff-lt-mul}
 use lib.ListN.{length, getD, set, take, drop, length-append, length-take, length-drop, List·getD-append}
-use lib.Seq.{sets, sets-eq, getD-append-add, getD-set-other, getD-take, getD-drop, take-take}
+use lib.Seq.{sets, sets-eq, getD-append-add, getD-set-other, getD-take, getD-drop, drop-cons, take-take}
 use lib.Arith.{mod-mul}
 use lib.Dec.{lit<}
 use Rattle.format.specs.Bytes.{leAt, leBytes, part, same, begins}
@@ -100,6 +100,36 @@ getD-sets (x ∷ xs) l i k h =
 pub le-elsewhere : (n : ℕ) (xs l : List ℕ) (i k : ℕ) → ((j : ℕ) → k ≤ j → j < k + n → i ≤ j → j < i + length xs → ⊥)
     → leAt n (sets l i xs) k ≡ leAt n l k
 le-elsewhere n xs l i k h = le-alike n (sets l i xs) l k λ j a b. getD-sets xs l i j (h j a b)
+
+-- ---- bytes
+
+-- each is below 256
+unfoldable pub AllBytes : List ℕ → Type 0
+AllBytes l = (i : ℕ) → getD l i 0 < 256
+
+pub bytes-append : (xs ys : List ℕ) → AllBytes xs → AllBytes ys → AllBytes (xs ++ ys)
+unfolding AllBytes
+bytes-append [] ys a b i = b i
+bytes-append (x ∷ xs) ys a b zero = a 0
+bytes-append (x ∷ xs) ys a b (suc i) = bytes-append xs ys (λ j. a (suc j)) b i
+
+pub le-bytes : (n v : ℕ) → AllBytes (leBytes n v)
+unfolding AllBytes leBytes
+le-bytes zero v i = omega arith
+le-bytes (suc n) v zero = omega arith
+le-bytes (suc n) v (suc i) = le-bytes n (v / 256) i
+
+-- bytes are those of the number that they stand for
+pub le-part : (n : ℕ) (s : List ℕ) (i : ℕ) → i + n ≤ length s → ((k : ℕ) → i ≤ k → k < i + n → getD s k 0 < 256) → part s i n ≡ leBytes n (leAt n s i)
+unfolding part leAt leBytes
+le-part zero s i h b = refl
+le-part (suc n) s i h b =
+    let x = getD s i 0 in
+    let m = leAt n s (suc i) in
+    let small = b i (omega arith) (omega arith) in
+    let low : (x + 256 * m) % 256 ≡ x = omega arith in
+    let high : (x + 256 * m) / 256 ≡ m = omega arith in
+    rw (low, high, drop-cons s i 0 (omega arith)) (ap (λ (l : List ℕ). x ∷ l) (le-part n s (suc i) (omega arith) λ k l l₂. b k (omega arith) (omega arith)))
 
 -- ---- parts
 

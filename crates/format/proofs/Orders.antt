@@ -2,12 +2,12 @@
 use Prim.Native.Nat.{ℕ, _<_}
 use mathlib.Core.Path.{_≡_, refl}
 use mathlib.Core.Logic.{_↔_}
-use mathlib.Core.Bool.{Bool, true, false, _&&_}
+use mathlib.Core.Bool.{Bool, true, false, not, _&&_, false≢true}
 use mathlib.Core.List.{List, [], _∷_, _++_}
 use native.Mathlib.Decide.{ℕ-discrete}
 use native.Mathlib.Omega.{arith}
-use lib.Dec.{ltb}
-use borrow.Author.Tests.{ltb-true, ltb-false}
+use lib.Dec.{eqb, ltb}
+use borrow.Author.Tests.{eqb-false, ltb-true, ltb-false}
 use Rattle.format.proofs.Tests.{and-left, and-right}
 use Rattle.format.proofs.Answers.{Numbered, refusal, answer, NotZero}
 use Rattle.format.specs.Answer.{Answer, refused, given, refuseIf, andThen, numberOf}
@@ -46,6 +46,12 @@ module _ {P : ℕ → Type 0} {A : Type 0} where
   decides-then x k (stops h) f = stops h
   decides-then x k (gives {a = a}) f = f a refl
   decides-then x k (goes h d) f = goes h (decides-then x k d f)
+
+  -- the same refusals among others
+  pub decides-as : {Q : ℕ → Type 0} {ns : List ℕ} {x : Answer A} → ((n : ℕ) → P n → Q n) → ((n : ℕ) → In n ns → Q n → P n) → Decides P ns x → Decides Q ns x
+  decides-as f g (stops {n = n} h) = stops (f n h)
+  decides-as f g gives = gives
+  decides-as f g (goes {n = n} h d) = goes (λ q. h (g n here q)) (decides-as f (λ m i. g m (behind i)) d)
 
   pub decides-none : (ns : List ℕ) (a : A) → ((n : ℕ) → In n ns → P n → ⊥) → Decides P ns (given a)
   decides-none [] a f = gives
@@ -101,6 +107,14 @@ nonzero ns e = all-by (ltb 0) (ltb-true 0) ns e
 pub all-in : {Q : ℕ → Type 0} {ns : List ℕ} {n : ℕ} → All Q ns → In n ns → Q n
 all-in (more q qs) here = q
 all-in (more q qs) (behind i) = all-in qs i
+
+-- a number that is not among them
+pub not-in : (k : ℕ) (ns : List ℕ) → each (λ n. not (eqb k n)) ns ≡ true → In k ns → ⊥
+not-in k ns e i = all-in (all-by {Q = λ n. k ≡ n → ⊥} (λ n. not (eqb k n)) (λ n. other n (eqb k n) refl) ns e) i refl
+  where
+    other : (n : ℕ) (b : Bool) → eqb k n ≡ b → not b ≡ true → k ≡ n → ⊥
+    other n true q f = absurd (false≢true f)
+    other n false q f = eqb-false k n q
 
 module _ {P : ℕ → Type 0} where
   first-none : {ns : List ℕ} {n : ℕ} → First P ns n → All NotZero ns → n ≡ 0 → (k : ℕ) → In k ns → P k → ⊥

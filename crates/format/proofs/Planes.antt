@@ -14,7 +14,9 @@ use Rattle.format.proofs.Tests.{or-left, or-right, or-none}
 use Rattle.format.proofs.Bytes.{part-length, part-at}
 use Rattle.format.proofs.Buffers.{over-at, over-later, over-length}
 use Rattle.format.proofs.Answers.{refuseIf-given, andThen-given, orRefuse-given, given-inj, found, orRefuse-numbered}
-use Rattle.format.proofs.Orders.{Decides, gives, decides-if, decides-less, decides-one, decides-then, decides-first, decides-given, nonzero, accepted-iff}
+use Rattle.format.proofs.Orders.{Decides, gives, decides-if, decides-less, decides-one, decides-then, decides-as, decides-first, decides-given}
+use Rattle.format.proofs.Orders.{nonzero, not-in, accepted-iff}
+use Rattle.format.proofs.Lists.{in-left, in-last}
 use Rattle.format.proofs.Chunks.{chunk-read, chunk-numbered}
 use Rattle.format.proofs.Maps.{map-read, read-map, map-numbered}
 use Rattle.format.proofs.Summaries.{sound-read, unsound}
@@ -35,7 +37,9 @@ use Rattle.format.specs.Grammar.Attributes.{Shape}
 use Rattle.format.specs.Grammar.Map.{MapOf}
 use Rattle.format.specs.Refused.Order.{First}
 use Rattle.format.specs.Refused.Summary.{Sound}
-use Rattle.format.specs.Refused.Plane.{Within, FrameEntry, FrameData, FrameLong, PlaneRefusal, summary, index, ceiling, map, no-frame, chunk, frame-short, buffer, planeOrder, Copied}
+use Rattle.format.specs.Refused.Plane.{Within, FrameEntry, FrameData, FrameLong, Copied}
+use Rattle.format.specs.Refused.Plane.{FrameRefusal, summary, index, ceiling, map, no-frame, chunk, frame-short, frameOrder}
+use Rattle.format.specs.Refused.Plane.{PlaneRefusal, frame, buffer, planeOrder}
 use Rattle.format.specs.declared.Range.{Range}
 use Rattle.format.specs.declared.Attributes.{Attributes}
 use Rattle.format.specs.declared.Axis.the-variants.{T, Z, P}
@@ -85,41 +89,38 @@ read-long u r l = or-none _ _ (or-none _ _ (le-ltb _ _ (l .prefix)) (le-ltb _ _ 
 
 -- ---- the number
 
-module _ (s : List ℕ) (u : Summary) (scene t c z : ℕ) (buf : List ℕ) where
-  abbrev R : ℕ → Type 0
-  R = PlaneRefusal s u scene t c z buf
+module _ (s : List ℕ) (u : Summary) (scene t c z : ℕ) where
+  abbrev F : ℕ → Type 0
+  F = FrameRefusal s u scene t c z
 
   abbrev seq : ℕ
   seq = seqIndex (loopsOf u) scene t z
 
   -- what each refusal says
-  says-summary : R why.summary → Sound s u → ⊥
+  says-summary : F why.summary → Sound s u → ⊥
   says-summary (summary f) = f
 
-  says-index : R why.index → Within (loopsOf u) scene t z → c < u .components → ⊥
+  says-index : F why.index → Within (loopsOf u) scene t z → c < u .components → ⊥
   says-index (index f) = f
 
-  says-ceiling : R why.ceiling → most < planeBytes (shapeOf u)
+  says-ceiling : F why.ceiling → most < planeBytes (shapeOf u)
   says-ceiling (ceiling h) = h
 
-  says-map : R why.map → (es : List MapEntry) → MapOf (mapOf s u) es → ⊥
+  says-map : F why.map → (es : List MapEntry) → MapOf (mapOf s u) es → ⊥
   says-map (map f) = f
 
-  says-frame : R why.noFrame → (o : ℕ) → FrameEntry s u seq o → ⊥
+  says-frame : F why.noFrame → (o : ℕ) → FrameEntry s u seq o → ⊥
   says-frame (no-frame f) = f
 
-  says-chunk : R why.chunk → (r : Range) → FrameData s u seq r → ⊥
+  says-chunk : F why.chunk → (r : Range) → FrameData s u seq r → ⊥
   says-chunk (chunk f) = f
 
-  says-short : R why.frameShort → (r : Range) → FrameData s u seq r → FrameLong u r → ⊥
+  says-short : F why.frameShort → (r : Range) → FrameData s u seq r → FrameLong u r → ⊥
   says-short (frame-short f) = f
-
-  says-buffer : R why.buffer → length buf < planeBytes (shapeOf u)
-  says-buffer (buffer h) = h
 
   -- the frame's entry, its chunk and the chunk's length
   entry-decides : (es : List MapEntry) → mapEntries (mapOf s u) ≡ given es → seq < 10 ^ 20
-      → Decides R (why.noFrame ∷ why.chunk ∷ why.frameShort ∷ [])
+      → Decides F (why.noFrame ∷ why.chunk ∷ why.frameShort ∷ [])
       (andThen (orRefuse (offsetOf (mapOf s u) (frameName seq) es) why.noFrame) λ o.
       andThen (chunkData [] s o) λ r. refuseIf (badFrame u (r .len)) why.frameShort (given r))
   entry-decides es e l =
@@ -137,19 +138,44 @@ module _ (s : List ℕ) (u : Summary) (scene t c z : ℕ) (buf : List ℕ) where
       (λ q. frame-short λ r′ x y. let k : r′ ≡ r = given-inj (sym (frame-chunk s u es e seq l o r′ e₁ x) ∙ q₂) in true≢false (sym q ∙ read-long u r (rw k at y)))
       (λ q p. says-short p r (data-at r q₂) (long-read u r q)) λ q₃. gives
 
-  plane-decides : Decides R planeOrder (frameFor s u scene t c z (length buf))
-  unfolding frameFor frameOf
-  plane-decides =
-      decides-then {ns = why.summary ∷ why.index ∷ why.ceiling ∷ why.map ∷ why.noFrame ∷ why.chunk ∷ why.frameShort ∷ []} (frameOf s u scene t c z) _
-      (decides-if (badSummary s u) why.summary _ (λ q. summary (unsound s u q)) (λ q p. says-summary p (sound-read s u q)) λ q₁.
+  pub frame-decides : Decides F frameOrder (frameOf s u scene t c z)
+  unfolding frameOf
+  frame-decides =
+      decides-if (badSummary s u) why.summary _ (λ q. summary (unsound s u q)) (λ q p. says-summary p (sound-read s u q)) λ q₁.
       decides-if (badIndex u scene t c z) why.index _ (λ q. index λ w h. true≢false (sym q ∙ read-index u scene t c z w h))
       (λ q p. let (w, h) = index-read u scene t c z q in says-index p w h) λ q₂.
       decides-less most (planeBytes (shapeOf u)) why.ceiling _ ceiling says-ceiling
       (decides-then {ns = why.map ∷ []} (mapEntries (mapOf s u)) _
       (decides-one why.map _ (map-numbered (mapOf s u) (λ m. m ≡ why.map) refl) (λ f. map λ es x. f es (read-map _ es x))
       (λ es q p. says-map p es (map-read _ es q))) λ es e.
-      entry-decides es e (seq-digits s u scene t z (sound-read s u q₁) (index-read u scene t c z q₂ .0))))
-      λ r e. decides-less (length buf) (planeBytes (shapeOf u)) why.buffer _ buffer says-buffer gives
+      entry-decides es e (seq-digits s u scene t z (sound-read s u q₁) (index-read u scene t c z q₂ .0)))
+
+  pub frame-in-order : (k : ℕ) → F k → In k frameOrder
+  frame-in-order k (summary f) = here
+  frame-in-order k (index f) = behind here
+  frame-in-order k (ceiling f) = behind (behind here)
+  frame-in-order k (map f) = behind (behind (behind here))
+  frame-in-order k (no-frame f) = behind (behind (behind (behind here)))
+  frame-in-order k (chunk f) = behind (behind (behind (behind (behind here))))
+  frame-in-order k (frame-short f) = behind (behind (behind (behind (behind (behind here)))))
+
+module _ (s : List ℕ) (u : Summary) (scene t c z : ℕ) (buf : List ℕ) where
+  abbrev R : ℕ → Type 0
+  R = PlaneRefusal s u scene t c z buf
+
+  says-buffer : R why.buffer → length buf < planeBytes (shapeOf u)
+  says-buffer (frame f) = absurd (not-in why.buffer frameOrder refl (frame-in-order s u scene t c z why.buffer f))
+  says-buffer (buffer h) = h
+
+  says-frame-of : (n : ℕ) → In n frameOrder → R n → FrameRefusal s u scene t c z n
+  says-frame-of n i (frame f) = f
+  says-frame-of n i (buffer h) = absurd (not-in why.buffer frameOrder refl i)
+
+  plane-decides : Decides R planeOrder (frameFor s u scene t c z (length buf))
+  unfolding frameFor
+  plane-decides =
+      decides-then {ns = frameOrder} (frameOf s u scene t c z) _ (decides-as (λ n. frame) says-frame-of (frame-decides s u scene t c z)) λ r e.
+      decides-less (length buf) (planeBytes (shapeOf u)) why.buffer _ buffer says-buffer gives
 
   by-number : (x : Answer Range) → planeBy s u c buf x .number ≡ numberOf x
   unfolding planeBy numberOf
@@ -162,14 +188,8 @@ module _ (s : List ℕ) (u : Summary) (scene t c z : ℕ) (buf : List ℕ) where
   plane-number = rw (by-number (frameFor s u scene t c z (length buf))) (decides-first plane-decides)
 
   in-order : (k : ℕ) → R k → In k planeOrder
-  in-order k (summary f) = here
-  in-order k (index f) = behind here
-  in-order k (ceiling f) = behind (behind here)
-  in-order k (map f) = behind (behind (behind here))
-  in-order k (no-frame f) = behind (behind (behind (behind here)))
-  in-order k (chunk f) = behind (behind (behind (behind (behind here))))
-  in-order k (frame-short f) = behind (behind (behind (behind (behind (behind here)))))
-  in-order k (buffer f) = behind (behind (behind (behind (behind (behind (behind here))))))
+  in-order k (frame f) = in-left (why.buffer ∷ []) (frame-in-order s u scene t c z k f)
+  in-order k (buffer h) = in-last why.buffer frameOrder
 
   -- It is 0 exactly when none of them holds.
   pub plane-accepted : (planeCall s u scene t c z buf .number ≡ 0) ↔ ((k : ℕ) → PlaneRefusal s u scene t c z buf k → ⊥)
@@ -232,22 +252,19 @@ sample-within a len c y x g h₂ h₃ hc hy hx =
     let k₆ : (x * a .components + c) * size + size ≤ a .width * a .components * size = rw suc-mul at k₄ in
     omega arith
 
--- what an accepted call has found
-pub record Ready (s : List ℕ) (u : Summary) (scene t c z : ℕ) (buf : List ℕ) (r : Range) : Type 0 where
+-- what a frame that is given has
+pub record Found (s : List ℕ) (u : Summary) (scene t c z : ℕ) (r : Range) : Type 0 where
   pub sound : Sound s u
   pub component : c < u .components
-  pub frame : FrameData s u (seqIndex (loopsOf u) scene t z) r
-  pub long : FrameLong u r
-  pub room : planeBytes (shapeOf u) ≤ length buf
+  pub ceiling-kept : planeBytes (shapeOf u) ≤ most
+  pub frame-data : FrameData s u (seqIndex (loopsOf u) scene t z) r
+  pub frame-long : FrameLong u r
 
-module _ (s : List ℕ) (u : Summary) (scene t c z : ℕ) (buf : List ℕ) where
-  pub ready : (r : Range) → frameFor s u scene t c z (length buf) ≡ given r → Ready s u scene t c z buf r
-  unfolding frameFor frameOf
-  ready r e =
+module _ (s : List ℕ) (u : Summary) (scene t c z : ℕ) (r : Range) where
+  pub frame-found : frameOf s u scene t c z ≡ given r → Found s u scene t c z r
+  unfolding frameOf
+  frame-found e₀ =
       let n = seqIndex (loopsOf u) scene t z in
-      let (r′, e₀, e₁) = andThen-given (frameOf s u scene t c z) _ e in
-      let (f₁, e₂) = refuseIf-given (ltb (length buf) (planeBytes (shapeOf u))) why.buffer (given r′) e₁ in
-      let k : r′ ≡ r = given-inj e₂ in
       let (f₂, e₃) = refuseIf-given (badSummary s u) why.summary _ e₀ in
       let (f₃, e₄) = refuseIf-given (badIndex u scene t c z) why.index _ e₃ in
       let (f₄, e₅) = refuseIf-given (ltb most (planeBytes (shapeOf u))) why.ceiling _ e₄ in
@@ -255,78 +272,93 @@ module _ (s : List ℕ) (u : Summary) (scene t c z : ℕ) (buf : List ℕ) where
       let (o, f₆, e₇) = andThen-given (orRefuse (offsetOf (mapOf s u) (frameName n) es) why.noFrame) _ e₆ in
       let (q, f₇, e₈) = andThen-given (chunkData [] s o) _ e₇ in
       let (f₈, e₉) = refuseIf-given (badFrame u (q .len)) why.frameShort (given q) e₈ in
-      let j : q ≡ r = given-inj e₉ ∙ k in
+      let j : q ≡ r = given-inj e₉ in
       let g = sound-read s u f₂ in
       let (w, h) = index-read u scene t c z f₃ in
       record {
         sound = g;
         component = h;
-        frame = record {
+        ceiling-kept = ltb-false _ _ f₄;
+        frame-data = record {
           offset = o;
           entry = frame-entry s u es f₅ n (seq-digits s u scene t z g w) o (orRefuse-given _ why.noFrame f₆);
           chunk = chunk-read [] s o r (rw j at f₇);
         };
-        long = rw j at (long-read u q f₈);
-        room = ltb-false _ _ f₁;
+        frame-long = rw j at (long-read u q f₈);
       }
 
-  copied : (r : Range) → Ready s u scene t c z buf r → Copied u c (dataIn s r) buf (over (samples (u .width * u .height) s (shapeOf u) (r .start) c 0) buf)
-  unfolding Whole
-  copied r f =
-      record {
-        sample = at-sample;
-        later = λ i h. over-later all buf i (rw len h);
-        length-kept = over-length all buf (rw len (f .room));
-      }
-    where
-      a : Attributes
-      a = shapeOf u
+  module _ (f : Found s u scene t c z r) where
+    some-width : 0 < u .width
+    some-width = f .sound .shape .width-some
 
-      all : List ℕ
-      all = samples (u .width * u .height) s (shapeOf u) (r .start) c 0
+    in-data : (y x : ℕ) → y < u .height → x < u .width → samplePlace (shapeOf u) 0 c y x + sampleBytes (u .bits) ≤ r .len
+    in-data y x hy hx = sample-within (shapeOf u) (r .len) c y x (f .sound .shape) (f .frame-long .prefix) (f .frame-long .rows) (f .component) hy hx
 
-      some-width : 0 < u .width
-      some-width = f .sound .shape .width-some
+    in-file : r .start + r .len ≤ length s
+    in-file = let k = f .frame-data .chunk in omega (arith, k .data-within, k .data-start, k .data-len)
 
-      in-data : (y x : ℕ) → y < u .height → x < u .width → samplePlace a 0 c y x + sampleBytes (u .bits) ≤ r .len
-      in-data y x hy hx = sample-within a (r .len) c y x (f .sound .shape) (f .long .prefix) (f .long .rows) (f .component) hy hx
+    whole : (i : ℕ) → i < u .width * u .height → samplePlace (shapeOf u) (r .start) c ((0 + i) / u .width) ((0 + i) % u .width) + sampleBytes (u .bits) ≤ length s
+    whole i h =
+        let h₂ : 0 + i < u .height * u .width = omega arith in
+        let k = in-data ((0 + i) / u .width) ((0 + i) % u .width) (div-lt-iff-lt-mul some-width .1 h₂) (mod-lt (0 + i) some-width) in
+        omega (arith, in-file)
 
-      in-file : r .start + r .len ≤ length s
-      in-file = let k = f .frame .chunk in omega (arith, k .data-within, k .data-start, k .data-len)
+    -- all of its samples are there
+    pub plane-length : length (planeSamples s u c r) ≡ planeBytes (shapeOf u)
+    unfolding planeSamples Whole
+    plane-length = samples-length s (shapeOf u) (r .start) c (u .width * u .height) 0 whole
 
-      whole : (i : ℕ) → i < u .width * u .height → samplePlace a (r .start) c ((0 + i) / u .width) ((0 + i) % u .width) + sampleBytes (u .bits) ≤ length s
-      whole i h =
-          let h₂ : 0 + i < u .height * u .width = omega arith in
-          let k = in-data ((0 + i) / u .width) ((0 + i) % u .width) (div-lt-iff-lt-mul some-width .1 h₂) (mod-lt (0 + i) some-width) in
-          omega (arith, in-file)
+    plane-at : (y x k : ℕ) → y < u .height → x < u .width → k < sampleBytes (u .bits)
+        → getD (planeSamples s u c r) ((y * u .width + x) * sampleBytes (u .bits) + k) 0
+        ≡ getD (dataIn s r) (8 + y * u .stride + (x * u .components + c) * sampleBytes (u .bits) + k) 0
+    unfolding planeSamples Whole
+    plane-at y x k hy hx hk =
+        let a = shapeOf u in
+        let i = y * u .width + x in
+        let size = sampleBytes (u .bits) in
+        let k₁ : suc y * u .width ≤ u .height * u .width = mul-le-mul-right (u .width) hy in
+        let below : i < u .width * u .height = omega arith in
+        let e₀ : 0 + i ≡ i = omega arith in
+        let e₁ : i / u .width ≡ y = mul-add-div-right some-width y x ∙ rw (div-eq-of-lt hx) (add-zero y) in
+        let e₂ : i % u .width ≡ x = mul-add-mod-self-right y (u .width) x ∙ mod-eq-of-lt hx in
+        let j = 8 + y * u .stride + (x * u .components + c) * size + k in
+        let k₄ = in-data y x hy hx in
+        let k₅ : j < r .len = omega arith in
+        let e₃ : r .start + j ≡ samplePlace a (r .start) c y x + k = omega arith in
+        let e₄ : getD s (samplePlace a (r .start) c ((0 + i) / u .width) ((0 + i) % u .width) + k) 0 ≡ getD s (r .start + j) 0 = rw (e₀, e₁, e₂, ← e₃) refl in
+        samples-at s a (r .start) c (u .width * u .height) 0 i k whole below hk ∙ (e₄ ∙ sym (part-at s (r .start) (r .len) j k₅))
 
-      len : length all ≡ u .width * u .height * sampleBytes (u .bits)
-      len = samples-length s a (r .start) c (u .width * u .height) 0 whole
+    -- and a buffer that has room for them gets them
+    pub samples-copied : (buf : List ℕ) → planeBytes (shapeOf u) ≤ length buf → Copied u c (dataIn s r) buf (over (planeSamples s u c r) buf)
+    samples-copied buf room =
+        record {
+          sample = λ y x k hy hx hk.
+              let k₁ : suc y * u .width ≤ u .height * u .width = mul-le-mul-right (u .width) hy in
+              let below : y * u .width + x < u .width * u .height = omega arith in
+              let k₂ : suc (y * u .width + x) * sampleBytes (u .bits) ≤ u .width * u .height * sampleBytes (u .bits) = mul-le-mul-right (sampleBytes (u .bits)) below in
+              over-at (planeSamples s u c r) buf _ (rw plane-length (omega arith)) ∙ plane-at y x k hy hx hk;
+          later = λ i h. over-later (planeSamples s u c r) buf i (rw plane-length h);
+          length-kept = over-length (planeSamples s u c r) buf (rw plane-length room);
+        }
 
-      at-sample : (y x k : ℕ) → y < u .height → x < u .width → k < sampleBytes (u .bits)
-          → getD (over all buf) ((y * u .width + x) * sampleBytes (u .bits) + k) 0
-          ≡ getD (dataIn s r) (8 + y * u .stride + (x * u .components + c) * sampleBytes (u .bits) + k) 0
-      at-sample y x k hy hx hk =
-          let i = y * u .width + x in
-          let size = sampleBytes (u .bits) in
-          let k₁ : suc y * u .width ≤ u .height * u .width = mul-le-mul-right (u .width) hy in
-          let below : i < u .width * u .height = omega arith in
-          let k₂ : suc i * size ≤ u .width * u .height * size = mul-le-mul-right size below in
-          let k₃ : i * size + k < length all = rw len (omega arith) in
-          let e₀ : 0 + i ≡ i = omega arith in
-          let e₁ : i / u .width ≡ y = mul-add-div-right some-width y x ∙ rw (div-eq-of-lt hx) (add-zero y) in
-          let e₂ : i % u .width ≡ x = mul-add-mod-self-right y (u .width) x ∙ mod-eq-of-lt hx in
-          let j = 8 + y * u .stride + (x * u .components + c) * size + k in
-          let k₄ = in-data y x hy hx in
-          let k₅ : j < r .len = omega arith in
-          let e₃ : r .start + j ≡ samplePlace a (r .start) c y x + k = omega arith in
-          let e₄ : getD s (samplePlace a (r .start) c ((0 + i) / u .width) ((0 + i) % u .width) + k) 0 ≡ getD s (r .start + j) 0 = rw (e₀, e₁, e₂, ← e₃) refl in
-          over-at all buf (i * size + k) k₃ ∙ (samples-at s a (r .start) c (u .width * u .height) 0 i k whole below hk ∙ (e₄ ∙ sym (part-at s (r .start) (r .len) j k₅)))
+-- what an accepted call has found
+pub record Ready (s : List ℕ) (u : Summary) (scene t c z : ℕ) (buf : List ℕ) (r : Range) : Type 0 where
+  pub frame-found : Found s u scene t c z r
+  pub room : planeBytes (shapeOf u) ≤ length buf
+
+module _ (s : List ℕ) (u : Summary) (scene t c z : ℕ) (buf : List ℕ) where
+  pub ready : (r : Range) → frameFor s u scene t c z (length buf) ≡ given r → Ready s u scene t c z buf r
+  unfolding frameFor
+  ready r e =
+      let (r′, e₀, e₁) = andThen-given (frameOf s u scene t c z) _ e in
+      let (f₁, e₂) = refuseIf-given (ltb (length buf) (planeBytes (shapeOf u))) why.buffer (given r′) e₁ in
+      let k : r′ ≡ r = given-inj e₂ in
+      record { frame-found = frame-found s u scene t c z r (rw k at e₀); room = ltb-false _ _ f₁ }
 
   -- Where the plane call gives 0, every sample's bytes are those of its frame's chunk, and later bytes are as they were.
   pub plane-sample : planeCall s u scene t c z buf .number ≡ 0
       → (r : Range) × FrameData s u (seqIndex (loopsOf u) scene t z) r × Copied u c (dataIn s r) buf (planeCall s u scene t c z buf .buffer)
-  unfolding planeCall planeBy planeSamples
+  unfolding planeCall planeBy
   plane-sample e =
       let x = frameFor s u scene t c z (length buf) in
       let (r, q) = decides-given (nonzero planeOrder refl) (plane-decides s u scene t c z buf) (sym (by-number s u scene t c z buf x) ∙ e) in
@@ -335,7 +367,9 @@ module _ (s : List ℕ) (u : Summary) (scene t c z : ℕ) (buf : List ℕ) where
       by : (r : Range) → frameFor s u scene t c z (length buf) ≡ given r
           → (r : Range) × FrameData s u (seqIndex (loopsOf u) scene t z) r
           × Copied u c (dataIn s r) buf (planeBy s u c buf (frameFor s u scene t c z (length buf)) .buffer)
-      by r q = let f = ready r q in (r, f .frame, rw q (copied r f))
+      by r q =
+          let f = ready r q in
+          (r, f .frame-found .frame-data, rw q (samples-copied s u scene t c z r (f .frame-found) buf (f .room)))
 
   -- Where it does not, the buffer is as it was.
   pub plane-refused : (planeCall s u scene t c z buf .number ≡ 0 → ⊥) → planeCall s u scene t c z buf .buffer ≡ buf

@@ -11,7 +11,7 @@ use lib.Dec.{lit<, ltb}
 use lib.ListN.{length, drop, replicate, getD, getElem?, length-append, length-drop, length-replicate}
 use lib.Seq.{sets, sets-eq, getD-append-add, getD-drop, ext-getD}
 use Rattle.format.proofs.Answers.{none≢some}
-use Rattle.format.proofs.Bytes.{le-after, le-before, le-leBytes, leBytes-length, leBytes-low, sets-append}
+use Rattle.format.proofs.Bytes.{le-after, le-before, le-leBytes, leBytes-length, leBytes-low, sets-append, AllBytes, bytes-append, le-bytes}
 use Rattle.format.specs.Bytes.{leAt, leBytes, over, zeros}
 use Rattle.format.specs.Refusals as why
 use Rattle.format.specs.Trees.{fault, Read, within, entryBytes, tableBytes}
@@ -157,22 +157,6 @@ entry-stands (x ∷ es) ys zero e q =
 entry-stands (x ∷ es) ys (suc k) e q =
     let z : 48 * suc k ≡ 48 + 48 * k = omega arith in
     rw (z, append-assoc) (entry-behind x e (tableBytes es ++ ys) (48 * k) (entry-stands es ys k e q))
-
--- each is a byte
-AllBytes : List ℕ → Type 0
-AllBytes l = (i : ℕ) → getD l i 0 < 256
-
-bytes-append : (xs ys : List ℕ) → AllBytes xs → AllBytes ys → AllBytes (xs ++ ys)
-unfolding AllBytes
-bytes-append [] ys a b i = b i
-bytes-append (x ∷ xs) ys a b zero = a 0
-bytes-append (x ∷ xs) ys a b (suc i) = bytes-append xs ys (λ j. a (suc j)) b i
-
-le-bytes : (n v : ℕ) → AllBytes (leBytes n v)
-unfolding AllBytes leBytes
-le-bytes zero v i = omega arith
-le-bytes (suc n) v zero = omega arith
-le-bytes (suc n) v (suc i) = le-bytes n (v / 256) i
 
 table-bytes : (es : List Entry) → AllBytes (tableBytes es)
 unfolding tableBytes entryBytes

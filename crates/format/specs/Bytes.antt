@@ -33,6 +33,11 @@ over xs buf = xs ++ drop (length xs) buf
 unfoldable pub zeros : ℕ → List ℕ
 zeros n = replicate n 0
 
+-- the bytes of each of a list, one after another
+unfoldable pub each : {A : Type 0} → (A → List ℕ) → List A → List ℕ
+each f [] = []
+each f (x ∷ xs) = f x ++ each f xs
+
 -- the bytes of a text of ASCII characters
 unfoldable pub ascii : String → List ℕ
 ascii []ₛ = []

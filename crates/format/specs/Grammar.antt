@@ -17,5 +17,6 @@ pub mod Loops
 pub mod Calibration
 pub mod Channels
 pub mod Frames
+pub mod Sheets
 pub mod File
 pub mod Table

@@ -21,6 +21,8 @@ pub mod Frames
 -- "Calibration and channels"
 pub mod Calibration
 pub mod Channels
+-- change request 2: a plane as a TIFF file
+pub mod Sheets
 -- "The calls": the summary that they share, and each call's answer from its arguments alone
 pub mod Summary
 pub mod Calls
@@ -34,3 +36,5 @@ pub mod Edges
 -- the customer's first and third demand, as statements: the sentences that contracts say too, and the demands
 pub mod Sentences
 pub mod Demands
+-- the change requests, as statements
+pub mod Requests

@@ -1,4 +1,4 @@
--- "Why a file is turned away": the numbers, named by their trade words.
+-- "Why a file is turned away": the numbers, named by their trade words. Those of a change request say which.
 use Prim.Native.Nat.{ℕ}
 
 -- foreign: under 4 bytes, or first u32 neither 0x0ABECEDA nor legacy
@@ -100,3 +100,11 @@ frameShort = 24
 -- buffer: shorter than the answer
 abbrev pub buffer : ℕ
 buffer = 25
+
+-- sheet long: the sheet would pass 4,294,967,295 bytes (change request 2)
+abbrev pub sheetLong : ℕ
+sheetLong = 26
+
+-- sheet layout: the lent sheet is not of this layout (change request 2)
+abbrev pub sheetLayout : ℕ
+sheetLayout = 27

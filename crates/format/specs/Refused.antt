@@ -4,6 +4,7 @@
 pub mod Order
 pub mod Summary
 pub mod Plane
+pub mod Sheet
 pub mod Tree
 pub mod Channels
 pub mod Register

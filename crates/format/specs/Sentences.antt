@@ -1,11 +1,15 @@
 -- Sentences that the demands and the calls' own contracts are made of, each under a name.
-use Prim.Native.Nat.{ℕ}
+use Prim.Native.Nat.{ℕ, _+_}
 use mathlib.Core.Path.{_≡_}
 use mathlib.Core.Logic.{_↔_}
 use mathlib.Core.List.{List}
+use lib.ListN.{length, take, drop}
+use Rattle.format.specs.Bytes.{zeros}
 use Rattle.format.specs.Chunks.{dataIn}
+use Rattle.format.specs.Attributes.{planeBytes}
 use Rattle.format.specs.Frames.{seqIndex}
-use Rattle.format.specs.Summary.{loopsOf}
+use Rattle.format.specs.Summary.{shapeOf, loopsOf}
+use Rattle.format.specs.Grammar.Sheets.{SheetOf}
 use Rattle.format.specs.Grammar.Trees.{Tree}
 use Rattle.format.specs.Grammar.File.{Joined}
 use Rattle.format.specs.Grammar.Table.{Enough}
@@ -48,6 +52,22 @@ Different ls =
 abbrev pub PlaneCopied : List ℕ → Summary → ℕ → ℕ → ℕ → ℕ → List ℕ → List ℕ → Type 0
 PlaneCopied file u scene t c z before after =
     (r : Range) × FrameData file u (seqIndex (loopsOf u) scene t z) r × Copied u c (dataIn file r) before after
+
+-- a sheet, in the lent bytes: that of the samples which the same plane leaves in a buffer of their length; later bytes as before
+pub record SheetWritten (file : List ℕ) (u : Summary) (scene t c z : ℕ) (before after : List ℕ) : Type 0 where
+  pub samples : List ℕ
+  pub plane : PlaneCopied file u scene t c z (zeros (planeBytes (shapeOf u))) samples
+  pub sheet : SheetOf (take (186 + planeBytes (shapeOf u)) after) (u .width) (u .height) (u .bits) samples
+  pub later : drop (186 + planeBytes (shapeOf u)) after ≡ drop (186 + planeBytes (shapeOf u)) before
+  pub length-kept : length after ≡ length before
+
+-- a sheet's samples, sizes and bits, where it is read: the samples in the lent bytes, later bytes as before
+pub record SheetTaken (s : List ℕ) (w h b : ℕ) (before after : List ℕ) : Type 0 where
+  pub samples : List ℕ
+  pub sheet : SheetOf s w h b samples
+  pub front : take (length samples) after ≡ samples
+  pub later : drop (length samples) after ≡ drop (length samples) before
+  pub length-kept : length after ≡ length before
 
 -- a tree, in a table of n bytes: the entries of the records of the chunk that the map has under the name, and zeros behind them
 abbrev pub TreeEntered : List ℕ → Summary → List ℕ → ℕ → List ℕ → Type 0

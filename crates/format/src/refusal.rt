@@ -1,4 +1,4 @@
-// Why a file is turned away: the numbers of document 01, by their trade words.
+// Why a file is turned away: the numbers of document 01 and of the change requests, by their trade words.
 
 pub const FOREIGN: u32 = 1;
 
@@ -49,3 +49,7 @@ pub const NO_FRAME: u32 = 23;
 pub const FRAME_SHORT: u32 = 24;
 
 pub const BUFFER: u32 = 25;
+
+pub const SHEET_LONG: u32 = 26;
+
+pub const SHEET_LAYOUT: u32 = 27;

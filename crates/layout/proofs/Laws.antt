@@ -13,7 +13,7 @@ use borrow.Author.Tests.{eqb-true, ltb-true, ltb-false}
 use Rattle.format.proofs.Buffers.{over-stored, over-all}
 use Rattle.format.proofs.Bytes.{le-stored, le-elsewhere, leBytes-length, sets-append}
 use Rattle.format.proofs.Tests.{and-left}
-use Rattle.format.specs.Bytes.{leAt, leBytes, over, zeros}
+use Rattle.format.specs.Bytes.{leAt, leBytes, over, zeros, each}
 use Rattle.format.specs.Loops.{axisNumber}
 use Rattle.format.specs.Summary.{noLoop}
 use Rattle.format.specs.declared.Axis.{Axis}
@@ -22,7 +22,7 @@ use Rattle.format.specs.declared.Loop.{Loop}
 use Rattle.format.specs.declared.Channel.{Channel}
 use Rattle.format.specs.declared.Summary.{Summary}
 use Rattle.layout.specs.Layout.{word, axisFrom, loopFrom, summaryIn, axisSaid, ofLayout, summaryFrom}
-use Rattle.layout.specs.Layout.{each, wordsOf, singleBytes, summaryBytes, channelBytes}
+use Rattle.layout.specs.Layout.{wordsOf, singleBytes, summaryBytes, channelBytes}
 use Rattle.layout.proofs.Each.{each-length}
 
 pub laid-length : (b : List ℕ) → ofLayout b ≡ true → length b ≡ 144

@@ -6,7 +6,7 @@ use mathlib.Core.List.{List, [], _∷_, _++_}
 use lib.ListN.{length, getD}
 use lib.Dec.{eqb, leb, ltb}
 use lib.Ieee.{Float, binary32, ofBits, toBits}
-use Rattle.format.specs.Bytes.{leAt, leBytes, zeros}
+use Rattle.format.specs.Bytes.{leAt, leBytes, zeros, each}
 use Rattle.format.specs.Loops.{axisNumber}
 use Rattle.format.specs.Summary.{noLoop}
 use Rattle.format.specs.declared.Axis.{Axis}
@@ -15,11 +15,6 @@ use Rattle.format.specs.declared.Loop.{Loop}
 use Rattle.format.specs.declared.Summary.{Summary}
 use Rattle.format.specs.declared.Channel.{Channel}
 use Rattle.layout.specs.declared.Laid.{Laid}
-
--- the bytes of each of a list, one after another
-unfoldable pub each : {A : Type 0} → (A → List ℕ) → List A → List ℕ
-each f [] = []
-each f (x ∷ xs) = f x ++ each f xs
 
 -- ---- a summary: 144 bytes
 

@@ -17,9 +17,9 @@ ghost use Prim.Native.Nat.{ℕ, _+_, _*_, _^_, _≤_, _<_};
 ghost use lib.ListN.{length, getD};
 ghost use lib.Seq.{sets};
 ghost use lib.Ieee.{binary32, ofBits, toBits};
-ghost use Rattle.format.specs.Bytes.{leBytes, over};
+ghost use Rattle.format.specs.Bytes.{leBytes, over, each};
 ghost use Rattle.layout.specs.Layout.{word, single, axisFrom, loopFrom, summaryIn, axisSaid, ofLayout, summaryFrom, laidOf};
-ghost use Rattle.layout.specs.Layout.{each, wordsOf, singleBytes, summaryBytes, channelBytes};
+ghost use Rattle.layout.specs.Layout.{wordsOf, singleBytes, summaryBytes, channelBytes};
 
 // The bytes of a summary.
 pub const SUMMARY_BYTES: usize = 144;

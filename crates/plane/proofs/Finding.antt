@@ -1,8 +1,8 @@
--- The refusals of a plane, test by test, and the frame that is left. Assumes nothing.
+-- The refusals of a frame, test by test, and the frame that is left. Assumes nothing.
 use Prim.Native.Nat.{ℕ}
 use mathlib.Core.Path.{_≡_, refl, sym}
-use mathlib.Core.Bool.{Bool, true, false}
-use mathlib.Core.Option.{Option, none, some}
+use mathlib.Core.Bool.{true, false}
+use mathlib.Core.Option.{none, some}
 use mathlib.Core.List.{List, []}
 use lib.Dec.{ltb}
 use Rattle.format.specs.Answer.{Answer, given, refused, refuseIf, andThen, orRefuse}
@@ -20,39 +20,35 @@ use Rattle.plane.specs.Found.{foundAt}
 
 -- ---- the chunk at an offset
 
-module _ (s : List ℕ) (u : Summary) (room o : ℕ) where
-  pub no-chunk : refused why.chunk ≡ chunkData [] s o → refused why.chunk ≡ foundAt s u room o
+module _ (s : List ℕ) (u : Summary) (o : ℕ) where
+  pub no-chunk : refused why.chunk ≡ chunkData [] s o → refused why.chunk ≡ foundAt s u o
   unfolding foundAt andThen
   no-chunk q = rw (sym q) refl
 
   module _ (r : Range) (q : given r ≡ chunkData [] s o) where
-    pub short : badFrame u (r .len) ≡ true → refused why.frameShort ≡ foundAt s u room o
+    pub short : badFrame u (r .len) ≡ true → refused why.frameShort ≡ foundAt s u o
     unfolding foundAt andThen refuseIf
     short e = rw (sym q, e) refl
 
-    pub no-room : badFrame u (r .len) ≡ false → ltb room (planeBytes (shapeOf u)) ≡ true → refused why.buffer ≡ foundAt s u room o
+    pub found : badFrame u (r .len) ≡ false → given r ≡ foundAt s u o
     unfolding foundAt andThen refuseIf
-    no-room e f = rw (sym q, e, f) refl
-
-    pub found : badFrame u (r .len) ≡ false → ltb room (planeBytes (shapeOf u)) ≡ false → given r ≡ foundAt s u room o
-    unfolding foundAt andThen refuseIf
-    found e f = rw (sym q, e, f) refl
+    found e = rw (sym q, e) refl
 
 -- ---- the frame of a point
 
-module _ (s : List ℕ) (u : Summary) (scene t c z room : ℕ) where
-  pub bad-summary : badSummary s u ≡ true → refused why.summary ≡ frameFor s u scene t c z room
-  unfolding frameFor frameOf andThen refuseIf
+module _ (s : List ℕ) (u : Summary) (scene t c z : ℕ) where
+  pub bad-summary : badSummary s u ≡ true → refused why.summary ≡ frameOf s u scene t c z
+  unfolding frameOf refuseIf
   bad-summary q₁ = rw q₁ refl
 
   module _ (q₁ : badSummary s u ≡ false) where
-    pub bad-index : badIndex u scene t c z ≡ true → refused why.index ≡ frameFor s u scene t c z room
-    unfolding frameFor frameOf andThen refuseIf
+    pub bad-index : badIndex u scene t c z ≡ true → refused why.index ≡ frameOf s u scene t c z
+    unfolding frameOf refuseIf
     bad-index q₂ = rw (q₁, q₂) refl
 
     module _ (q₂ : badIndex u scene t c z ≡ false) where
-      pub too-large : ltb mostPlaneBytes (planeBytes (shapeOf u)) ≡ true → refused why.ceiling ≡ frameFor s u scene t c z room
-      unfolding frameFor frameOf andThen refuseIf
+      pub too-large : ltb mostPlaneBytes (planeBytes (shapeOf u)) ≡ true → refused why.ceiling ≡ frameOf s u scene t c z
+      unfolding frameOf refuseIf
       too-large q₃ = rw (q₁, q₂, q₃) refl
 
       module _ (q₃ : ltb mostPlaneBytes (planeBytes (shapeOf u)) ≡ false) where
@@ -60,41 +56,40 @@ module _ (s : List ℕ) (u : Summary) (scene t c z room : ℕ) where
         name = frameName (seqIndex (loopsOf u) scene t z)
 
         -- what the map has for the frame, and the chunk there
-        looked : andThen (findIn (mapOf s u) name) (λ x. andThen (orRefuse x why.noFrame) (foundAt s u room)) ≡ frameFor s u scene t c z room
-        unfolding frameFor frameOf findIn foundAt andThen refuseIf orRefuse
-        looked = rw (q₁, q₂, q₃) (sym (by-map (mapEntries (mapOf s u))))
+        looked : andThen (findIn (mapOf s u) name) (λ x. andThen (orRefuse x why.noFrame) (foundAt s u)) ≡ frameOf s u scene t c z
+        unfolding frameOf findIn foundAt andThen refuseIf
+        looked = rw (q₁, q₂, q₃) (by-map (mapEntries (mapOf s u)))
           where
-            small : Range → Answer Range
-            small r = refuseIf (ltb room (planeBytes (shapeOf u))) why.buffer (given r)
-
-            by-length : (r : Range) (b : Bool) → andThen (refuseIf b why.frameShort (given r)) small ≡ refuseIf b why.frameShort (small r)
-            by-length r true = refl
-            by-length r false = refl
-
-            by-chunk : (y : Answer Range) → andThen (andThen y λ r. refuseIf (badFrame u (r .len)) why.frameShort (given r)) small
-                ≡ andThen y λ r. refuseIf (badFrame u (r .len)) why.frameShort (small r)
-            by-chunk (refused n) = refl
-            by-chunk (given r) = by-length r (badFrame u (r .len))
-
-            by-entry : (x : Option ℕ) → andThen (andThen (orRefuse x why.noFrame) λ o.
-                andThen (chunkData [] s o) λ r. refuseIf (badFrame u (r .len)) why.frameShort (given r)) small ≡ andThen (orRefuse x why.noFrame) (foundAt s u room)
-            by-entry none = refl
-            by-entry (some o) = by-chunk (chunkData [] s o)
-
-            by-map : (x : Answer (List MapEntry)) → andThen (andThen x λ es. andThen (orRefuse (offsetOf (mapOf s u) name es) why.noFrame) λ o.
-                andThen (chunkData [] s o) λ r. refuseIf (badFrame u (r .len)) why.frameShort (given r)) small
-                ≡ andThen (andThen x λ es. given (offsetOf (mapOf s u) name es)) λ x. andThen (orRefuse x why.noFrame) (foundAt s u room)
+            by-map : (x : Answer (List MapEntry)) → andThen (andThen x λ es. given (offsetOf (mapOf s u) name es)) (λ x. andThen (orRefuse x why.noFrame) (foundAt s u))
+                ≡ andThen x λ es. andThen (orRefuse (offsetOf (mapOf s u) name es) why.noFrame) λ o.
+                andThen (chunkData [] s o) λ r. refuseIf (badFrame u (r .len)) why.frameShort (given r)
             by-map (refused n) = refl
-            by-map (given es) = by-entry (offsetOf (mapOf s u) name es)
+            by-map (given es) = refl
 
-        pub no-map : refused why.map ≡ findIn (mapOf s u) name → refused why.map ≡ frameFor s u scene t c z room
+        pub no-map : refused why.map ≡ findIn (mapOf s u) name → refused why.map ≡ frameOf s u scene t c z
         unfolding andThen
         no-map q = rw (sym q) at looked
 
-        pub no-frame : given none ≡ findIn (mapOf s u) name → refused why.noFrame ≡ frameFor s u scene t c z room
+        pub no-frame : given none ≡ findIn (mapOf s u) name → refused why.noFrame ≡ frameOf s u scene t c z
         unfolding andThen orRefuse
         no-frame q = rw (sym q) at looked
 
-        pub at-offset : (o : ℕ) → given (some o) ≡ findIn (mapOf s u) name → foundAt s u room o ≡ frameFor s u scene t c z room
+        pub at-offset : (o : ℕ) → given (some o) ≡ findIn (mapOf s u) name → foundAt s u o ≡ frameOf s u scene t c z
         unfolding andThen orRefuse
         at-offset o q = rw (sym q) at looked
+
+-- ---- the frame of a plane
+
+module _ (s : List ℕ) (u : Summary) (scene t c z room : ℕ) where
+  pub refused-before : (n : ℕ) → refused n ≡ frameOf s u scene t c z → refused n ≡ frameFor s u scene t c z room
+  unfolding frameFor andThen
+  refused-before n q = rw (sym q) refl
+
+  module _ (r : Range) (q : given r ≡ frameOf s u scene t c z) where
+    pub no-room : ltb room (planeBytes (shapeOf u)) ≡ true → refused why.buffer ≡ frameFor s u scene t c z room
+    unfolding frameFor andThen refuseIf
+    no-room e = rw (sym q, e) refl
+
+    pub with-room : ltb room (planeBytes (shapeOf u)) ≡ false → given r ≡ frameFor s u scene t c z room
+    unfolding frameFor andThen refuseIf
+    with-room e = rw (sym q, e) refl

@@ -52,18 +52,19 @@ module _ (s : List ℕ) (u : Summary) (scene t c z : ℕ) (buf : List ℕ) where
   -- what a frame that was found has
   module _ {r : Range} (q : given r ≡ frameFor s u scene t c z (length buf)) where
     pub inside : r .start + r .len ≤ length s
-    inside = let k = ready s u scene t c z buf r (sym q) .frame .chunk in omega (arith, k .data-within, k .data-start, k .data-len)
+    inside = let k = ready s u scene t c z buf r (sym q) .frame-found .frame-data .chunk in omega (arith, k .data-within, k .data-start, k .data-len)
 
     pub prefix : 8 ≤ r .len
-    prefix = ready s u scene t c z buf r (sym q) .long .prefix
+    prefix = ready s u scene t c z buf r (sym q) .frame-found .frame-long .prefix
 
     pub fit : Fit u c (r .len - 8) (length buf)
     fit =
-        let f = ready s u scene t c z buf r (sym q) in
+        let g = ready s u scene t c z buf r (sym q) in
+        let f = g .frame-found in
         record {
           bits = f .sound .bits;
           shape = f .sound .shape;
           component = f .component;
-          whole = rw mul-comm (f .long .rows);
-          enough = f .room;
+          whole = rw mul-comm (f .frame-long .rows);
+          enough = g .room;
         }

@@ -20,13 +20,9 @@ abbrev pub frameAnswer : Frame → Answer Range
 frameAnswer (Data r) = given r
 frameAnswer (Refused n) = refused n
 
--- the frame whose chunk is at the offset o: 4, 24, 25
-unfoldable pub foundAt : List ℕ → Summary → ℕ → ℕ → Answer Range
-foundAt s u room o =
-    andThen (chunkData [] s o) λ r.
-    refuseIf (badFrame u (r .len)) why.frameShort
-    (refuseIf (ltb room (planeBytes (shapeOf u))) why.buffer
-    (given r))
+-- the frame whose chunk is at the offset o: 4, 24
+unfoldable pub foundAt : List ℕ → Summary → ℕ → Answer Range
+foundAt s u o = andThen (chunkData [] s o) λ r. refuseIf (badFrame u (r .len)) why.frameShort (given r)
 
 -- the samples of component c in the rows of a frame
 abbrev pub planeIn : Summary → ℕ → List ℕ → List ℕ

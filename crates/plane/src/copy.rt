@@ -50,7 +50,7 @@ fn copy_blocks(src: &[u8], dst: &mut [u8], size: usize, x: usize)
 }
 
 // Copies src into dst, which is as long: equal parts of it side by side, which memory serves faster than one after another, and then the rest.
-fn copy_run(src: &[u8], dst: &mut [u8])
+pub fn copy_run(src: &[u8], dst: &mut [u8])
     requires { ⌜ length (now src) ≡ length (now dst) ⌝ }
     ensures { λ _. ⌜ now (dst .exit) ≡ now (src .entry) ⌝ }
 {

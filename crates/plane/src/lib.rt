@@ -17,13 +17,13 @@ ghost use mathlib.Core.Path.{_≡_};
 ghost use Prim.Native.Nat.{_/_};
 ghost use lib.ListN.{length};
 ghost use Rattle.format.specs.Bytes.{over};
-ghost use Rattle.format.specs.Calls.Plane.{badFrame, frameFor, planeCall};
+ghost use Rattle.format.specs.Calls.Plane.{badFrame, frameOf, frameFor, planeCall};
 ghost use Rattle.format.specs.Refused.Order.{First};
 ghost use Rattle.format.specs.Refused.Plane.{PlaneRefusal, planeOrder};
 ghost use Rattle.format.specs.Sentences.{Refuses, AcceptedUnless, PlaneCopied};
 ghost use Rattle.plane.specs.Found.{frameAnswer, foundAt, planeIn, Fit};
 
-mod copy; // rows of bytes
+pub mod copy; // rows of bytes
 
 // The number of a plane that is accepted.
 const ACCEPTED: u32 = 0;
@@ -47,9 +47,9 @@ fn bad_frame(u: Summary, len: u64) -> bool
     product_over(u.stride, u.height, 1, len - 8)
 }
 
-// The data of the chunk at `offset`, where it is a whole frame and its plane has no more than `room` bytes.
-fn frame_data(file: &[u8], u: Summary, offset: u64, room: usize) -> Frame
-    ensures { λ r. ⌜ frameAnswer r ≡ foundAt (now (file .entry)) u room offset ⌝ }
+// The data of the chunk at `offset`, where it is a whole frame.
+fn frame_data(file: &[u8], u: Summary, offset: u64) -> Frame
+    ensures { λ r. ⌜ frameAnswer r ≡ foundAt (now (file .entry)) u offset ⌝ }
 {
     match chunk_data(file, offset, b"") {
         ChunkData::Bad => Frame::Refused(refusal::CHUNK),
@@ -57,17 +57,14 @@ fn frame_data(file: &[u8], u: Summary, offset: u64, room: usize) -> Frame
             if bad_frame(u, r.len) {
                 return Frame::Refused(refusal::FRAME_SHORT);
             }
-            if product_over(u.width, u.height, u.bits / 8, room as u64) {
-                return Frame::Refused(refusal::BUFFER);
-            }
             Frame::Data(r)
         }
     }
 }
 
-// The data of the frame of a point, and every refusal of a plane in order.
-fn frame_for(file: &[u8], u: Summary, scene: u64, t: u64, c: u64, z: u64, room: usize) -> Frame
-    ensures { λ r. ⌜ frameAnswer r ≡ frameFor (now (file .entry)) u scene t c z room ⌝ }
+// The data of the frame of a point, and in order every refusal that does not depend on what is lent.
+pub fn frame_of(file: &[u8], u: Summary, scene: u64, t: u64, c: u64, z: u64) -> Frame
+    ensures { λ r. ⌜ frameAnswer r ≡ frameOf (now (file .entry)) u scene t c z ⌝ }
 {
     if bad_summary(file, u) {
         return Frame::Refused(refusal::SUMMARY);
@@ -80,9 +77,24 @@ fn frame_for(file: &[u8], u: Summary, scene: u64, t: u64, c: u64, z: u64, room: 
     }
     let map = data_of(file, u.map.start, u.map.len);
     match frame_at(map, seq_index(u, scene, t, z)) {
-        Lookup::At(o) => frame_data(file, u, o, room),
+        Lookup::At(o) => frame_data(file, u, o),
         Lookup::Absent => Frame::Refused(refusal::NO_FRAME),
         Lookup::Broken => Frame::Refused(refusal::MAP),
+    }
+}
+
+// The same, and whether its plane has no more than `room` bytes.
+fn frame_for(file: &[u8], u: Summary, scene: u64, t: u64, c: u64, z: u64, room: usize) -> Frame
+    ensures { λ r. ⌜ frameAnswer r ≡ frameFor (now (file .entry)) u scene t c z room ⌝ }
+{
+    match frame_of(file, u, scene, t, c, z) {
+        Frame::Refused(n) => Frame::Refused(n),
+        Frame::Data(r) => {
+            if product_over(u.width, u.height, u.bits / 8, room as u64) {
+                return Frame::Refused(refusal::BUFFER);
+            }
+            Frame::Data(r)
+        }
     }
 }
 
@@ -118,7 +130,7 @@ fn gather_samples(rows: &[u8], u: Summary, c: u64, size: usize, samples: &mut [u
 }
 
 // Copies the samples of component c: whole rows where there is no other, and else with each size as a literal, so that it is compiled for each.
-fn copy_samples(rows: &[u8], u: Summary, c: u64, samples: &mut [u8])
+pub fn copy_samples(rows: &[u8], u: Summary, c: u64, samples: &mut [u8])
     requires { ⌜ Fit u c (length (now rows)) (length (now samples)) ⌝ }
     ensures { λ _. ⌜ now (samples .exit) ≡ over (planeIn u c (now (rows .entry))) (now (samples .entry)) ⌝ }
 {

@@ -3,8 +3,10 @@
 // printed; rust/replay/src/step.rs says how a step is stored.
 use border::nd2_read_plane;
 use capi::nd2_channels;
+use capi::nd2_sheet_read;
 use cursor::le4;
 use cursor::le8;
+use cursor::put8;
 use format::Axis;
 use format::Loop;
 use format::Range;
@@ -14,6 +16,7 @@ use libc::STDOUT_FILENO;
 use open::open;
 use plane::plane;
 use register::register;
+use sheet::sheet;
 use sum::fold_bytes;
 use sum::fold_summary;
 use tree_call::tree;
@@ -42,6 +45,10 @@ const REGISTER: u64 = 7;
 const BORDER: u64 = 8;
 
 const CHANNELS: u64 = 9;
+
+const SHEET: u64 = 10;
+
+const READ_SHEET: u64 = 11;
 
 // The most bytes that a file has, or that are lent as a table or as a buffer.
 const MOST: usize = 65_536;
@@ -171,6 +178,24 @@ fn ask_plane(file: &[u8], u: Summary, q: Step, buffer: &mut [u8]) {
     show(b"plane ", n, fold_bytes(0, buffer));
 }
 
+fn ask_sheet(file: &[u8], u: Summary, q: Step, lent: &mut [u8]) {
+    let n = sheet(file, u, q.scene, q.t, q.c, q.z, lent);
+    show(b"sheet ", n, fold_bytes(0, lent));
+}
+
+// A sheet that is read, as the C interface has it: width, height and bits are lent numbers.
+fn ask_read(lent: &[u8], samples: &mut [u8]) {
+    let mut width: u64 = 1;
+    let mut height: u64 = 1;
+    let mut bits: u64 = 1;
+    let n = nd2_sheet_read(lent, samples, &mut width, &mut height, &mut bits);
+    let mut sizes = [0u8; 24];
+    put8(&mut sizes, 0, width);
+    put8(&mut sizes, 8, height);
+    put8(&mut sizes, 16, bits);
+    show(b"read ", n, fold_bytes(fold_bytes(0, &sizes), samples));
+}
+
 fn ask_tree(file: &[u8], u: Summary, name: &[u8], table: &mut [u8]) {
     let n = tree(file, u, name, table);
     show(b"tree ", n, fold_bytes(0, table));
@@ -194,28 +219,39 @@ fn ask_channels(file: &[u8], u: Summary, table: &mut [u8], row: &mut [u8]) {
     show(b"channels ", n, fold_bytes(fold_bytes(0, row), table));
 }
 
+// The question of a step that is lent a buffer alone; `text` is what follows the step.
+fn ask_buffer(file: &[u8], u: Summary, q: Step, text: &[u8], buffer: &mut [u8]) {
+    if q.kind == PLANE {
+        ask_plane(file, u, q, buffer);
+        return;
+    }
+    if q.kind == REGISTER {
+        ask_register(file, u, buffer);
+        return;
+    }
+    if q.kind == SHEET {
+        ask_sheet(file, u, q, buffer);
+        return;
+    }
+    if q.kind == READ_SHEET {
+        ask_read(text, buffer);
+    }
+}
+
 // The question of a step, over what is lent to it. The summary afterwards is the one that opening gave, if that was asked.
 fn ask(
     file: &[u8],
     u: Summary,
     q: Step,
-    name: &[u8],
+    text: &[u8],
     table: &mut [u8],
     buffer: &mut [u8],
 ) -> Summary {
     if q.kind == OPEN {
         return ask_open(file, table);
     }
-    if q.kind == PLANE {
-        ask_plane(file, u, q, buffer);
-        return u;
-    }
     if q.kind == TREE {
-        ask_tree(file, u, name, table);
-        return u;
-    }
-    if q.kind == REGISTER {
-        ask_register(file, u, buffer);
+        ask_tree(file, u, text, table);
         return u;
     }
     if q.kind == BORDER {
@@ -226,6 +262,7 @@ fn ask(
         ask_channels(file, u, table, buffer);
         return u;
     }
+    ask_buffer(file, u, q, text, buffer);
     u
 }
 

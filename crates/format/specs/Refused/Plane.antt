@@ -1,7 +1,7 @@
 -- The plane call: "20, 21, 22, 5, 23, 4, 24, 25".
 use Prim.Native.Nat.{ℕ, _+_, _-_, _*_, _≤_, _<_}
 use mathlib.Core.Path.{_≡_}
-use mathlib.Core.List.{List, [], _∷_}
+use mathlib.Core.List.{List, [], _∷_, _++_}
 use lib.ListN.{length, getD}
 use Rattle.format.specs.Bytes.{most64}
 use Rattle.format.specs.Map.{MapEntry}
@@ -44,20 +44,27 @@ pub record FrameLong (u : Summary) (r : Range) : Type 0 where
   pub product : u .stride * u .height ≤ most64
   pub rows : u .stride * u .height ≤ r .len - 8
 
+-- when each refusal of a point's frame holds, whatever its samples are for
+pub data FrameRefusal (s : List ℕ) (u : Summary) (scene t c z : ℕ) : ℕ → Type 0 where
+  summary : (Sound s u → ⊥) → FrameRefusal s u scene t c z why.summary
+  index : (Within (loopsOf u) scene t z → c < u .components → ⊥) → FrameRefusal s u scene t c z why.index
+  ceiling : 4_294_967_296 < planeBytes (shapeOf u) → FrameRefusal s u scene t c z why.ceiling
+  map : ((es : List MapEntry) → MapOf (mapOf s u) es → ⊥) → FrameRefusal s u scene t c z why.map
+  no-frame : ((o : ℕ) → FrameEntry s u (seqIndex (loopsOf u) scene t z) o → ⊥) → FrameRefusal s u scene t c z why.noFrame
+  chunk : ((r : Range) → FrameData s u (seqIndex (loopsOf u) scene t z) r → ⊥) → FrameRefusal s u scene t c z why.chunk
+  frame-short : ((r : Range) → FrameData s u (seqIndex (loopsOf u) scene t z) r → FrameLong u r → ⊥) → FrameRefusal s u scene t c z why.frameShort
+
+abbrev pub frameOrder : List ℕ
+frameOrder = why.summary ∷ why.index ∷ why.ceiling ∷ why.map ∷ why.noFrame ∷ why.chunk ∷ why.frameShort ∷ []
+
 -- when each refusal of a plane holds; buf is the buffer that is lent for the samples
 pub data PlaneRefusal (s : List ℕ) (u : Summary) (scene t c z : ℕ) (buf : List ℕ) : ℕ → Type 0 where
-  summary : (Sound s u → ⊥) → PlaneRefusal s u scene t c z buf why.summary
-  index : (Within (loopsOf u) scene t z → c < u .components → ⊥) → PlaneRefusal s u scene t c z buf why.index
-  ceiling : 4_294_967_296 < planeBytes (shapeOf u) → PlaneRefusal s u scene t c z buf why.ceiling
-  map : ((es : List MapEntry) → MapOf (mapOf s u) es → ⊥) → PlaneRefusal s u scene t c z buf why.map
-  no-frame : ((o : ℕ) → FrameEntry s u (seqIndex (loopsOf u) scene t z) o → ⊥) → PlaneRefusal s u scene t c z buf why.noFrame
-  chunk : ((r : Range) → FrameData s u (seqIndex (loopsOf u) scene t z) r → ⊥) → PlaneRefusal s u scene t c z buf why.chunk
-  frame-short : ((r : Range) → FrameData s u (seqIndex (loopsOf u) scene t z) r → FrameLong u r → ⊥) → PlaneRefusal s u scene t c z buf why.frameShort
+  frame : {n : ℕ} → FrameRefusal s u scene t c z n → PlaneRefusal s u scene t c z buf n
   buffer : length buf < planeBytes (shapeOf u) → PlaneRefusal s u scene t c z buf why.buffer
 
+-- "20, 21, 22, 5, 23, 4, 24, 25"
 abbrev pub planeOrder : List ℕ
-planeOrder =
-    why.summary ∷ why.index ∷ why.ceiling ∷ why.map ∷ why.noFrame ∷ why.chunk ∷ why.frameShort ∷ why.buffer ∷ []
+planeOrder = frameOrder ++ why.buffer ∷ []
 
 -- `out` is what an accepted plane of component c leaves in `buf`; chunk is the data of the frame's chunk. Sample y × width + x is, byte for byte, the one that
 -- begins 8 + y × row bytes + (x × components + c) × sample bytes into that data; the bytes behind the samples are as they were.

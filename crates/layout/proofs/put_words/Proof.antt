@@ -6,10 +6,10 @@ use lib.ListN.{length, getD, take}
 use lib.Seq.{length-sets}
 use borrow.Author.Needs.{needs}
 use Rattle.format.proofs.Bytes.{leBytes-length}
-use Rattle.format.specs.Bytes.{leBytes, over}
+use Rattle.format.specs.Bytes.{leBytes, over, each}
 use Rattle.layout.proofs.Each.{none-stored, next-stored, all-stored}
 use Rattle.layout.proofs.Laws.{next-word}
-use Rattle.layout.specs.Layout.{each, word}
+use Rattle.layout.specs.Layout.{word}
 use Rattle.layout.proofs.put_words.Statement.{statement}
 use Rattle.layout.proofs.put_words.Tie as tie
 

@@ -5,7 +5,7 @@ use borrow.Author.Needs.{needs}
 use denote.Ref.{now}
 use Rattle.format.specs.Answer.{given}
 use Rattle.format.specs.Chunks.{chunkData}
-use Rattle.plane.proofs.Finding.{no-chunk, short, no-room, found}
+use Rattle.plane.proofs.Finding.{no-chunk, short, found}
 use Rattle.plane.proofs.frame_data.Statement.{statement}
 use Rattle.plane.proofs.frame_data.Tie as tie
 
@@ -32,33 +32,19 @@ returns : tie.Need-returns
 returns c =
     let d = c .before .before in
     let a = d .before .before .before .before .before .before .args in
-    short (now (a .file)) (a .u) (a .room) (a .offset) (d .before .r .given .0 .0) (data-at d) (sym (c .before .bad-frame .ensures) ∙ c .if1 .taken)
-
-product-over-requires : tie.Need-product-over-requires
-product-over-requires c κs = search needs
+    short (now (a .file)) (a .u) (a .offset) (d .before .r .given .0 .0) (data-at d) (sym (c .before .bad-frame .ensures) ∙ c .if1 .taken)
 
 returns-2 : tie.Need-returns-2
 returns-2 c =
-    let b = c .before .before .before in
-    let d = b .before .before in
-    let a = d .before .before .before .before .before .before .args in
-    no-room (now (a .file)) (a .u) (a .room) (a .offset) (d .before .r .given .0 .0) (data-at d) (sym (b .before .bad-frame .ensures) ∙ b .if1 .left)
-    (sym (c .before .product-over .ensures) ∙ c .if2 .taken)
+    let a = c .before .before .before .before .before .args in
+    no-chunk (now (a .file)) (a .u) (a .offset) (rw (c .enum-told .given .1) at (c .before .before .chunk-data .ensures .0))
 
 returns-3 : tie.Need-returns-3
 returns-3 c =
-    let a = c .before .before .before .before .before .args in
-    no-chunk (now (a .file)) (a .u) (a .room) (a .offset) (rw (c .enum-told .given .1) at (c .before .before .chunk-data .ensures .0))
-
-returns-4 : tie.Need-returns-4
-returns-4 c =
-    let b = c .before .before .before in
-    let d = b .before .before in
+    let d = c .before .before in
     let a = d .before .before .before .before .before .before .args in
-    found (now (a .file)) (a .u) (a .room) (a .offset) (d .before .r .given .0 .0) (data-at d) (sym (b .before .bad-frame .ensures) ∙ b .if1 .left)
-    (sym (c .before .product-over .ensures) ∙ c .if2 .left)
+    found (now (a .file)) (a .u) (a .offset) (d .before .r .given .0 .0) (data-at d) (sym (c .before .bad-frame .ensures) ∙ c .if1 .left)
 
 pub frame-data-spec : {M : Type 1} → statement M
 frame-data-spec =
-    tie.close
-    (tie.spec slice-aggregate-chunk-data chunk-data-requires enum-told enum-known-r bad-frame-requires returns product-over-requires returns-2 returns-3 returns-4)
+    tie.close (tie.spec slice-aggregate-chunk-data chunk-data-requires enum-told enum-known-r bad-frame-requires returns returns-2 returns-3)

@@ -1,0 +1,23 @@
+-- The change requests hold of the definitions. Assumes nothing.
+use Rattle.format.specs.Requests.{Sheets}
+use Rattle.format.proofs.Sheets.{rule-is, sheet-only}
+use Rattle.format.proofs.SheetCalls.{write-number, write-accepted, write-refused, written, plane-written}
+use Rattle.format.proofs.SheetCalls.{read-number, read-accepted, read-refused, read-zero, read-taken, turned-away, read-back}
+
+pub sheets : Sheets
+sheets = record {
+  rule-is = rule-is;
+  sheet-only = sheet-only;
+  write-number = write-number;
+  write-accepted = write-accepted;
+  write-refused = write-refused;
+  written = written;
+  plane-written = plane-written;
+  read-number = read-number;
+  read-accepted = read-accepted;
+  read-refused = read-refused;
+  read-zero = read-zero;
+  read-taken = read-taken;
+  turned-away = turned-away;
+  read-back = read-back;
+}

@@ -1,0 +1,29 @@
+-- Change request 2, "Planes as TIFF sheets": the refusals of a sheet that is written and of one that is read.
+use Prim.Native.Nat.{ℕ, _+_, _<_}
+use mathlib.Core.List.{List, [], _∷_, _++_}
+use lib.ListN.{length}
+use Rattle.format.specs.Refusals as why
+use Rattle.format.specs.Attributes.{planeBytes}
+use Rattle.format.specs.Summary.{shapeOf}
+use Rattle.format.specs.Grammar.Sheets.{SheetOf}
+use Rattle.format.specs.Refused.Plane.{FrameRefusal, frameOrder}
+use Rattle.format.specs.declared.Summary.{Summary}
+
+-- when each refusal holds of a sheet that is written; lent is the bytes that are lent for it
+pub data SheetRefusal (s : List ℕ) (u : Summary) (scene t c z : ℕ) (lent : List ℕ) : ℕ → Type 0 where
+  frame : {n : ℕ} → FrameRefusal s u scene t c z n → SheetRefusal s u scene t c z lent n
+  long : 4_294_967_295 < 186 + planeBytes (shapeOf u) → SheetRefusal s u scene t c z lent why.sheetLong
+  buffer : length lent < 186 + planeBytes (shapeOf u) → SheetRefusal s u scene t c z lent why.buffer
+
+-- 26 is "judged after 24 and before 25"
+abbrev pub sheetOrder : List ℕ
+sheetOrder = frameOrder ++ why.sheetLong ∷ why.buffer ∷ []
+
+-- when each refusal holds of the sheet s that is read; buf is the buffer that is lent for the samples
+pub data SheetReadRefusal (s buf : List ℕ) : ℕ → Type 0 where
+  layout : ((w h b : ℕ) (samples : List ℕ) → SheetOf s w h b samples → ⊥) → SheetReadRefusal s buf why.sheetLayout
+  buffer : {w h b : ℕ} {samples : List ℕ} → SheetOf s w h b samples → length buf < length samples → SheetReadRefusal s buf why.buffer
+
+-- 27 is "judged first when reading one"
+abbrev pub sheetReadOrder : List ℕ
+sheetReadOrder = why.sheetLayout ∷ why.buffer ∷ []

@@ -1,0 +1,56 @@
+-- The customer's change requests, as far as the demands do not say them already: statements only, for any bytes, summaries, indices and buffers.
+use Prim.Native.Nat.{ℕ, _+_, _≤_}
+use mathlib.Core.Path.{_≡_}
+use mathlib.Core.Logic.{_↔_}
+use mathlib.Core.List.{List}
+use lib.ListN.{length, take}
+use Rattle.format.specs.Attributes.{planeBytes}
+use Rattle.format.specs.Summary.{shapeOf}
+use Rattle.format.specs.Sheets.{sheet}
+use Rattle.format.specs.Calls.Plane.{planeCall}
+use Rattle.format.specs.Calls.Sheet.{sheetCall, sheetReadCall}
+use Rattle.format.specs.Grammar.Sheets.{SheetSizes, SheetOf}
+use Rattle.format.specs.Refusals as why
+use Rattle.format.specs.Refused.Order.{First}
+use Rattle.format.specs.Refused.Sheet.{SheetRefusal, sheetOrder, SheetReadRefusal, sheetReadOrder}
+use Rattle.format.specs.Sentences.{Refuses, AcceptedUnless, SheetWritten, SheetTaken}
+use Rattle.format.specs.declared.Summary.{Summary}
+
+-- Change request 2, "Planes as TIFF sheets".
+pub record Sheets : Type 0 where
+  -- the bytes that are defined are those of which the rules hold, and no bytes are the sheet of two planes
+  pub rule-is : (s : List ℕ) (w h b : ℕ) (samples : List ℕ) → SheetOf s w h b samples ↔ (SheetSizes w h b samples × (s ≡ sheet w h b samples))
+  pub sheet-only : (s : List ℕ) (w h b w′ h′ b′ : ℕ) (xs xs′ : List ℕ) → SheetOf s w h b xs → SheetOf s w′ h′ b′ xs′
+      → (w ≡ w′) × ((h ≡ h′) × ((b ≡ b′) × (xs ≡ xs′)))
+  -- writing
+  pub write-number : (file : List ℕ) (u : Summary) (scene t c z : ℕ) (lent : List ℕ)
+      → First (SheetRefusal file u scene t c z lent) sheetOrder (sheetCall file u scene t c z lent .number)
+  pub write-accepted : (file : List ℕ) (u : Summary) (scene t c z : ℕ) (lent : List ℕ)
+      → AcceptedUnless (SheetRefusal file u scene t c z lent) (sheetCall file u scene t c z lent .number)
+  pub write-refused : (file : List ℕ) (u : Summary) (scene t c z : ℕ) (lent : List ℕ)
+      → Refuses (sheetCall file u scene t c z lent .number) → sheetCall file u scene t c z lent .buffer ≡ lent
+  pub written : (file : List ℕ) (u : Summary) (scene t c z : ℕ) (lent : List ℕ)
+      → sheetCall file u scene t c z lent .number ≡ 0 → SheetWritten file u scene t c z lent (sheetCall file u scene t c z lent .buffer)
+  -- what is written is the sheet of the plane that the plane call gives on the same arguments, whatever samples are lent to that
+  pub plane-written : (file : List ℕ) (u : Summary) (scene t c z : ℕ) (lent samples : List ℕ)
+      → sheetCall file u scene t c z lent .number ≡ 0 → planeBytes (shapeOf u) ≤ length samples
+      → (planeCall file u scene t c z samples .number ≡ 0)
+      × (take (186 + planeBytes (shapeOf u)) (sheetCall file u scene t c z lent .buffer)
+      ≡ sheet (u .width) (u .height) (u .bits) (take (planeBytes (shapeOf u)) (planeCall file u scene t c z samples .buffer)))
+  -- reading
+  pub read-number : (s samples : List ℕ) → First (SheetReadRefusal s samples) sheetReadOrder (sheetReadCall s samples .number)
+  pub read-accepted : (s samples : List ℕ) → AcceptedUnless (SheetReadRefusal s samples) (sheetReadCall s samples .number)
+  pub read-refused : (s samples : List ℕ) → Refuses (sheetReadCall s samples .number) → sheetReadCall s samples .samples ≡ samples
+  pub read-zero : (s samples : List ℕ) → Refuses (sheetReadCall s samples .number)
+      → (sheetReadCall s samples .width ≡ 0) × ((sheetReadCall s samples .height ≡ 0) × (sheetReadCall s samples .bits ≡ 0))
+  pub read-taken : (s samples : List ℕ) → sheetReadCall s samples .number ≡ 0
+      → SheetTaken s (sheetReadCall s samples .width) (sheetReadCall s samples .height) (sheetReadCall s samples .bits) samples (sheetReadCall s samples .samples)
+  -- "only sheets of this layout .. are taken"
+  pub turned-away : (s samples : List ℕ)
+      → (sheetReadCall s samples .number ≡ why.sheetLayout) ↔ ((w h b : ℕ) (xs : List ℕ) → SheetOf s w h b xs → ⊥)
+  -- "the samples, sizes and bits that went in come out": the samples are what the plane call leaves in the same lent bytes
+  pub read-back : (file : List ℕ) (u : Summary) (scene t c z : ℕ) (lent samples : List ℕ)
+      → sheetCall file u scene t c z lent .number ≡ 0 → planeBytes (shapeOf u) ≤ length samples
+      → let back = sheetReadCall (take (186 + planeBytes (shapeOf u)) (sheetCall file u scene t c z lent .buffer)) samples in
+      (back .number ≡ 0) × ((back .width ≡ u .width) × ((back .height ≡ u .height) × ((back .bits ≡ u .bits)
+      × (back .samples ≡ planeCall file u scene t c z samples .buffer))))

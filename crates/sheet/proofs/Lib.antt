@@ -1,0 +1,4 @@
+pub mod Heads
+pub mod Finding
+pub mod Promises
+pub mod Reading
