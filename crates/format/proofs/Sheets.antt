@@ -8,7 +8,7 @@ use native.Mathlib.Nat.{mul-le-mul-left, mul-le-mul-right, mul-one, one-mul}
 use native.Mathlib.Omega.{arith}
 use lib.Dec.{eqb, ltb, leb, lit<, lit≤}
 use lib.ListN.{length, getD, take, drop, length-append, length-drop, take-append-drop, List·getD-append}
-use borrow.Author.Tests.{eqb-true, eq-eqb, ltb-true, lt-ltb, leb-true, le-leb}
+use borrow.Author.Tests.{not-true, eqb-true, eq-eqb, ltb-true, lt-ltb, leb-true, le-leb}
 use Rattle.format.specs.Answer.{Answer, given, refused}
 use Rattle.format.specs.Bytes.{leAt, leBytes, part, ascii, zeros, same, each}
 use Rattle.format.specs.Refusals as why
@@ -265,10 +265,6 @@ pub bits-of-bytes : {b n : ℕ} → SampleBytes b n → attributes.Bits b
 bits-of-bytes one = attributes.eight
 bits-of-bytes two = attributes.sixteen
 bits-of-bytes four = attributes.thirtytwo
-
-not-true : (t : Bool) → not t ≡ true → t ≡ false
-not-true true e = sym e
-not-true false e = refl
 
 module _ (s : List ℕ) (w h b : ℕ) where
   head-then : take 186 s ≡ sheetHead w h b → s ≡ sheet w h b (drop 186 s)

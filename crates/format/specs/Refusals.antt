@@ -101,10 +101,10 @@ frameShort = 24
 abbrev pub buffer : ℕ
 buffer = 25
 
--- sheet long: the sheet would pass 4,294,967,295 bytes (change request 2)
+-- sheet long: a plane whose sheet has more than 4,294,967,295 bytes (change request 2)
 abbrev pub sheetLong : ℕ
 sheetLong = 26
 
--- sheet layout: the lent sheet is not of this layout (change request 2)
+-- sheet layout: lent bytes that are no plane's sheet (change request 2)
 abbrev pub sheetLayout : ℕ
 sheetLayout = 27

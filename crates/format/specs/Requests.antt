@@ -45,10 +45,10 @@ pub record Sheets : Type 0 where
       → (sheetReadCall s samples .width ≡ 0) × ((sheetReadCall s samples .height ≡ 0) × (sheetReadCall s samples .bits ≡ 0))
   pub read-taken : (s samples : List ℕ) → sheetReadCall s samples .number ≡ 0
       → SheetTaken s (sheetReadCall s samples .width) (sheetReadCall s samples .height) (sheetReadCall s samples .bits) samples (sheetReadCall s samples .samples)
-  -- "only sheets of this layout .. are taken"
+  -- 27 is the number exactly where the bytes are no plane's sheet
   pub turned-away : (s samples : List ℕ)
       → (sheetReadCall s samples .number ≡ why.sheetLayout) ↔ ((w h b : ℕ) (xs : List ℕ) → SheetOf s w h b xs → ⊥)
-  -- "the samples, sizes and bits that went in come out": the samples are what the plane call leaves in the same lent bytes
+  -- what was written gives sizes and bits back, and leaves in lent samples what the plane call leaves there
   pub read-back : (file : List ℕ) (u : Summary) (scene t c z : ℕ) (lent samples : List ℕ)
       → sheetCall file u scene t c z lent .number ≡ 0 → planeBytes (shapeOf u) ≤ length samples
       → let back = sheetReadCall (take (186 + planeBytes (shapeOf u)) (sheetCall file u scene t c z lent .buffer)) samples in

@@ -1,4 +1,5 @@
--- Change request 2, "Planes as TIFF sheets": a sheet is one plane as a TIFF 6.0 file, little-endian. Its parts in that standard's words, and the thirteen fields.
+-- Change request 2, "Planes as TIFF sheets": a sheet is one plane as a TIFF 6.0 file, little-endian. Its parts in that standard's words, and its thirteen
+-- fields.
 use Prim.Native.Nat.{ℕ, _+_, _*_}
 use mathlib.Core.Bool.{cond}
 use mathlib.Core.List.{List, [], _∷_, _++_}
@@ -56,7 +57,7 @@ rationalBytes n d = leBytes 4 n ++ leBytes 4 d
 
 -- ---- a sheet
 
--- "Sample format is 1 for 8 and 16 bits and 3 for 32": unsigned integers, IEEE floating point
+-- the kind of samples by their bits: 1 is unsigned integers, 3 IEEE floating point
 unfoldable pub sampleFormat : ℕ → ℕ
 sampleFormat b = cond (eqb b 32) 3 1
 
@@ -103,6 +104,6 @@ sheet w h b samples = sheetHead w h b ++ samples
 abbrev pub sheetBytes : ℕ → ℕ → ℕ → ℕ
 sheetBytes w h b = 186 + w * h * sampleBytes b
 
--- "up to 4,294,967,295 bytes"
+-- the most bytes that a sheet has
 abbrev pub mostSheetBytes : ℕ
 mostSheetBytes = 4_294_967_295

@@ -1,5 +1,5 @@
--- Change request 2, "Planes as TIFF sheets": one call writes a plane as a sheet, the other reads a sheet back. "Lent bytes past the answer stay, on refusal all
--- of them."
+-- Change request 2, "Planes as TIFF sheets": one call writes a plane as a sheet, the other reads a sheet back. What is lent keeps the bytes behind the answer,
+-- and every byte where a call is refused.
 use Prim.Native.Nat.{ℕ}
 use mathlib.Core.Bool.{Bool, cond, not, _&&_}
 use mathlib.Core.List.{List}

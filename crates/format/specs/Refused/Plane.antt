@@ -62,7 +62,6 @@ pub data PlaneRefusal (s : List ℕ) (u : Summary) (scene t c z : ℕ) (buf : Li
   frame : {n : ℕ} → FrameRefusal s u scene t c z n → PlaneRefusal s u scene t c z buf n
   buffer : length buf < planeBytes (shapeOf u) → PlaneRefusal s u scene t c z buf why.buffer
 
--- "20, 21, 22, 5, 23, 4, 24, 25"
 abbrev pub planeOrder : List ℕ
 planeOrder = frameOrder ++ why.buffer ∷ []
 

@@ -15,7 +15,7 @@ pub data SheetRefusal (s : List ℕ) (u : Summary) (scene t c z : ℕ) (lent : L
   long : 4_294_967_295 < 186 + planeBytes (shapeOf u) → SheetRefusal s u scene t c z lent why.sheetLong
   buffer : length lent < 186 + planeBytes (shapeOf u) → SheetRefusal s u scene t c z lent why.buffer
 
--- 26 is "judged after 24 and before 25"
+-- 26 stands between 24 and 25
 abbrev pub sheetOrder : List ℕ
 sheetOrder = frameOrder ++ why.sheetLong ∷ why.buffer ∷ []
 
@@ -24,6 +24,6 @@ pub data SheetReadRefusal (s buf : List ℕ) : ℕ → Type 0 where
   layout : ((w h b : ℕ) (samples : List ℕ) → SheetOf s w h b samples → ⊥) → SheetReadRefusal s buf why.sheetLayout
   buffer : {w h b : ℕ} {samples : List ℕ} → SheetOf s w h b samples → length buf < length samples → SheetReadRefusal s buf why.buffer
 
--- 27 is "judged first when reading one"
+-- 27 comes first
 abbrev pub sheetReadOrder : List ℕ
 sheetReadOrder = why.sheetLayout ∷ why.buffer ∷ []
