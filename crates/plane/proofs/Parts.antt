@@ -83,6 +83,13 @@ module _ (s d q : List ℕ) (size count x n k at e : ℕ) (inside : x + n ≤ si
 
 -- ---- all of each part
 
+-- where the first `done` bytes are alike and those behind them are copied too, all is
+pub rest-all : (s d q : List ℕ) (done m : ℕ) → take done d ≡ take done s → done ≤ length s → length s ≡ length d → m ≡ length d
+    → q ≡ take (length s - done) (drop done s) → putMid done (m - done) d q ≡ s
+rest-all s d q done m first hd el em eq =
+    let end : done + (m - done) ≡ length d = omega arith in
+    rw (drop-drop, end, drop-length, append-nil, eq, part-to-end s done, first) (take-append-drop done s)
+
 module _ (s d : List ℕ) (size : ℕ) where
   -- parts that are wholly alike are alike in one piece
   parts-joined : (k : ℕ) → Alike s d size k size → part d 0 (k * size) ≡ part s 0 (k * size)
@@ -96,7 +103,13 @@ module _ (s d : List ℕ) (size : ℕ) where
   pub parts-all : (q : List ℕ) (k done m : ℕ) → Alike s d size k size → done ≡ k * size → done ≤ length s → length s ≡ length d → m ≡ length d
       → q ≡ take (length s - done) (drop done s) → putMid done (m - done) d q ≡ s
   unfolding part
-  parts-all q k done m alike ed hd el em eq =
-      let first : take done d ≡ take done s = rw (← ed) at (parts-joined k alike) in
-      let end : done + (m - done) ≡ length d = omega arith in
-      rw (drop-drop, end, drop-length, append-nil, eq, part-to-end s done, first) (take-append-drop done s)
+  parts-all q k done m alike ed hd el em eq = rest-all s d q done m (rw (← ed) at (parts-joined k alike)) hd el em eq
+
+-- the first `lead` bytes of d replaced by those of s
+pub led : (s d q : List ℕ) (lead : ℕ) → lead ≤ length d → length s ≡ length d → q ≡ take (lead - 0) (drop 0 s) → take lead (putMid 0 (lead - 0) d q) ≡ take lead s
+unfolding part
+led s d q lead h el e =
+    let z : lead - 0 ≡ lead = omega arith in
+    let as-long : length q ≡ lead - 0 = ap length e ∙ part-length s 0 (lead - 0) (omega arith) in
+    let put = part-put 0 lead d q (omega arith) h as-long in
+    ap (λ n. take n (putMid 0 (lead - 0) d q)) (sym z) ∙ put ∙ e ∙ ap (λ n. take n s) z

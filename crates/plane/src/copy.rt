@@ -67,6 +67,19 @@ pub fn copy_run(src: &[u8], dst: &mut [u8])
     copy_bytes(&src[done..], &mut dst[done..]);
 }
 
+// Copies src into dst, which is as long: `lead` bytes by themselves, so that what is copied in blocks begins where memory takes a block in one piece.
+fn copy_led(src: &[u8], dst: &mut [u8], lead: usize)
+    requires { ⌜ length (now src) ≡ length (now dst) ⌝ }
+    ensures { λ _. ⌜ now (dst .exit) ≡ now (src .entry) ⌝ }
+{
+    if dst.len() < lead {
+        copy_bytes(src, dst);
+        return;
+    }
+    copy_bytes(&src[0..lead], &mut dst[0..lead]);
+    copy_run(&src[lead..], &mut dst[lead..]);
+}
+
 // Copies src into dst, which is as long: a sample of 16 or 32 bits in one piece, as a block is.
 fn copy_piece(src: &[u8], dst: &mut [u8])
     requires { ⌜ length (now src) ≡ length (now dst) ⌝ }
@@ -105,14 +118,14 @@ fn copy_pieces(src: &[u8], dst: &mut [u8], at: usize, step: usize, size: usize, 
     }
 }
 
-// Copies the first `w` bytes of each of `count` rows of `stride` bytes, at once where a row has no others.
-pub fn copy_whole(src: &[u8], dst: &mut [u8], stride: usize, w: usize, count: usize)
+// Copies the first `w` bytes of each of `count` rows of `stride` bytes, at once where a row has no others, `lead` of them first.
+pub fn copy_whole(src: &[u8], dst: &mut [u8], stride: usize, w: usize, count: usize, lead: usize)
     requires { ⌜ (w ≤ stride) × (count * stride ≤ length (now src)) × (count * w ≤ length (now dst)) ⌝ }
     ensures { λ _. ⌜ now (dst .exit) ≡ over (pieces (now (src .entry)) 0 stride w count) (now (dst .entry)) ⌝ }
 {
     if w == stride {
         let n = count * w;
-        copy_run(&src[0..n], &mut dst[0..n]);
+        copy_led(&src[0..n], &mut dst[0..n], lead);
         return;
     }
     copy_pieces(src, dst, 0, stride, w, count);

@@ -99,12 +99,12 @@ fn frame_for(file: &[u8], u: Summary, scene: u64, t: u64, c: u64, z: u64, room: 
 }
 
 // Copies the samples of a frame that has one component: its rows without their padding.
-fn copy_rows(rows: &[u8], u: Summary, c: u64, samples: &mut [u8])
+fn copy_rows(rows: &[u8], u: Summary, c: u64, samples: &mut [u8], lead: usize)
     requires { ⌜ (u .components ≡ 1) × Fit u c (length (now rows)) (length (now samples)) ⌝ }
     ensures { λ _. ⌜ now (samples .exit) ≡ over (planeIn u c (now (rows .entry))) (now (samples .entry)) ⌝ }
 {
     let w = u.width as usize * (u.bits / 8) as usize;
-    copy_whole(rows, samples, u.stride as usize, w, u.height as usize);
+    copy_whole(rows, samples, u.stride as usize, w, u.height as usize, lead);
 }
 
 // Copies the samples of `size` bytes of component c out of the rows of a frame.
@@ -130,12 +130,13 @@ fn gather_samples(rows: &[u8], u: Summary, c: u64, size: usize, samples: &mut [u
 }
 
 // Copies the samples of component c: whole rows where there is no other, and else with each size as a literal, so that it is compiled for each.
-pub fn copy_samples(rows: &[u8], u: Summary, c: u64, samples: &mut [u8])
+// Where all are one run, `lead` bytes of it are copied first.
+pub fn copy_samples(rows: &[u8], u: Summary, c: u64, samples: &mut [u8], lead: usize)
     requires { ⌜ Fit u c (length (now rows)) (length (now samples)) ⌝ }
     ensures { λ _. ⌜ now (samples .exit) ≡ over (planeIn u c (now (rows .entry))) (now (samples .entry)) ⌝ }
 {
     if u.components == 1 {
-        copy_rows(rows, u, c, samples);
+        copy_rows(rows, u, c, samples, lead);
         return;
     }
     if u.bits == 8 {
@@ -162,7 +163,7 @@ pub fn plane(file: &[u8], u: Summary, scene: u64, t: u64, c: u64, z: u64, sample
         Frame::Refused(n) => n,
         Frame::Data(r) => {
             let data = data_of(file, r.start, r.len);
-            copy_samples(&data[8..], u, c, samples);
+            copy_samples(&data[8..], u, c, samples, 0);
             ACCEPTED
         }
     }

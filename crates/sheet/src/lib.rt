@@ -33,6 +33,9 @@ const ACCEPTED: u32 = 0;
 // A sheet has at most this many bytes.
 const MOST_SHEET_BYTES: u64 = 4_294_967_295;
 
+// The strip's bytes before byte 192 of the sheet, from where blocks of 16 begin at multiples of 16.
+const LEAD: usize = 6;
+
 // Where width, height and bits stand in a sheet: the values of its first three fields.
 const WIDTH_AT: usize = 18;
 
@@ -85,7 +88,7 @@ pub fn sheet(file: &[u8], u: Summary, scene: u64, t: u64, c: u64, z: u64, lent: 
         Frame::Data(r) => {
             put_head(lent, u.width, u.height, u.bits);
             let data = data_of(file, r.start, r.len);
-            copy_samples(&data[8..], u, c, &mut lent[HEAD_BYTES..]);
+            copy_samples(&data[8..], u, c, &mut lent[HEAD_BYTES..], LEAD);
             ACCEPTED
         }
     }

@@ -14,11 +14,11 @@ use Rattle.plane.proofs.copy.copy_whole.Tie as tie
 mul-n : tie.Need-mul-n
 mul-n c = omega arith
 
-sub-copy-run : tie.Need-sub-copy-run
-sub-copy-run c = search needs
+sub-copy-led : tie.Need-sub-copy-led
+sub-copy-led c = search needs
 
-part-copy-run-start : tie.Need-part-copy-run-start
-part-copy-run-start c = search needs
+part-copy-led-start : tie.Need-part-copy-led-start
+part-copy-led-start c = search needs
 
 -- the rows are within src
 inside : (c : tie.Then1) → let a = c .before .before .before .args in a .count * a .w ≤ length (now (a .src))
@@ -27,20 +27,20 @@ inside c =
     let e : s .args .w ≡ s .args .stride = omega arith in
     rw e (s .pre .1)
 
-part-copy-run-end : tie.Need-part-copy-run-end
-part-copy-run-end c = omega (arith, inside c)
+part-copy-led-end : tie.Need-part-copy-led-end
+part-copy-led-end c = omega (arith, inside c)
 
-sub-copy-run-2 : tie.Need-sub-copy-run-2
-sub-copy-run-2 c = search needs
+sub-copy-led-2 : tie.Need-sub-copy-led-2
+sub-copy-led-2 c = search needs
 
-part-copy-run-start-2 : tie.Need-part-copy-run-start-2
-part-copy-run-start-2 c = search needs
+part-copy-led-start-2 : tie.Need-part-copy-led-start-2
+part-copy-led-start-2 c = search needs
 
-part-copy-run-end-2 : tie.Need-part-copy-run-end-2
-part-copy-run-end-2 c = search needs
+part-copy-led-end-2 : tie.Need-part-copy-led-end-2
+part-copy-led-end-2 c = search needs
 
-copy-run-requires : tie.Need-copy-run-requires
-copy-run-requires c κs = search needs
+copy-led-requires : tie.Need-copy-led-requires
+copy-led-requires c κs = search needs
 
 same-length : tie.Need-same-length
 same-length c = search needs
@@ -50,7 +50,7 @@ unfolding part
 returns c =
     let s = c .before .before .before .before .before .before .before .before in
     let t = c .before .before .before .before .before in
-    rw sub-zero (pieces-once (now (s .args .src)) (now (s .args .dst)) (c .before .before .copy-run .last .1 .0) (s .args .w) (s .args .stride) (s .args .count) (t .if1 .taken) (inside t) (rw sub-zero at (c .before .before .copy-run .ensures)))
+    rw sub-zero (pieces-once (now (s .args .src)) (now (s .args .dst)) (c .before .before .copy-led .last .1 .0) (s .args .w) (s .args .stride) (s .args .count) (t .if1 .taken) (inside t) (rw sub-zero at (c .before .before .copy-led .ensures)))
 
 copy-pieces-requires : tie.Need-copy-pieces-requires
 copy-pieces-requires c κs = search needs
@@ -66,13 +66,13 @@ copy-whole-spec =
     tie.close
     (tie.spec
     mul-n
-    sub-copy-run
-    part-copy-run-start
-    part-copy-run-end
-    sub-copy-run-2
-    part-copy-run-start-2
-    part-copy-run-end-2
-    copy-run-requires
+    sub-copy-led
+    part-copy-led-start
+    part-copy-led-end
+    sub-copy-led-2
+    part-copy-led-start-2
+    part-copy-led-end-2
+    copy-led-requires
     same-length
     returns
     copy-pieces-requires
