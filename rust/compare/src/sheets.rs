@@ -7,6 +7,9 @@ use second::sheets::HEAD_BYTES;
 use second::Sheet;
 use std::fmt;
 
+/// So often a sheet is damaged and read.
+const DAMAGES: usize = 3;
+
 /// What reading a sheet gave: its number, what the sheet says, and what the lent samples hold.
 #[derive(Clone, PartialEq)]
 pub struct Read {
@@ -41,8 +44,11 @@ impl Asking<'_> {
             if lent.number == 0 {
                 let sheet = &lent.bytes[..needed];
                 self.read_back(sheet, &plane.bytes[..needed - HEAD_BYTES]);
-                let read = self.read(&damaged(rng, sheet), needed - HEAD_BYTES + self.plan.spare);
-                self.answers.damaged.push(read);
+                for _ in 0..DAMAGES {
+                    let room = needed - HEAD_BYTES + self.plan.spare;
+                    let read = self.read(&damaged(rng, sheet), room);
+                    self.answers.damaged.push(read);
+                }
             }
             self.answers.sheets.push(lent);
         }

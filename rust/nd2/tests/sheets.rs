@@ -5,6 +5,7 @@ use nd2::{File, Reader, Refusal, Sheet};
 use sample::parts::{self, Sizes};
 use sample::{corner, Nd2, Roller};
 use std::fs;
+use std::io::Write;
 use std::path::PathBuf;
 
 /// What lent bytes hold before a call.
@@ -178,10 +179,14 @@ impl Drop for Scratch {
     }
 }
 
+fn scratch(name: &str) -> Scratch {
+    let name = format!("nd2-{}-{name}", std::process::id());
+    Scratch(std::env::temp_dir().join(name))
+}
+
 /// A file of one row of so many samples of 8 bits, all of them a hole.
 fn hollow(width: u64) -> Scratch {
-    let name = format!("nd2-{}-hollow-{width}", std::process::id());
-    let scratch = Scratch(std::env::temp_dir().join(name));
+    let scratch = scratch(&format!("hollow-{width}"));
     let mut out = fs::File::create(&scratch.0).unwrap();
     corner::hollow(Sizes::packed(width, 1, 1, 8), &mut out).unwrap();
     scratch
@@ -216,4 +221,30 @@ fn a_sheet_that_would_be_too_long() {
     assert_eq!(reader.sheet(1, 0, 0, 0), Err(Refusal::INDEX));
     let short = with_rows(Sizes::packed(most + 1, 1, 1, 8), &[0; 100]);
     assert_eq!(asked(&short, 0), 24);
+}
+
+/// A sheet of one row of so many samples of 8 bits, all of them a hole.
+fn hollow_sheet(width: u32) -> Scratch {
+    let bytes = one_frame(Sizes::packed(1, 1, 1, 8));
+    let mut head = Reader::open(&bytes).unwrap().sheet(0, 0, 0, 0).unwrap();
+    head.truncate(SHEET_HEAD_BYTES);
+    for at in [18, 114] {
+        head[at..at + 4].copy_from_slice(&width.to_le_bytes());
+    }
+    let scratch = scratch(&format!("sheet-{width}"));
+    let mut out = fs::File::create(&scratch.0).unwrap();
+    out.write_all(&head).unwrap();
+    out.set_len(head.len() as u64 + width as u64).unwrap();
+    scratch
+}
+
+/// The same limit where a sheet is read: one of as many bytes is taken and needs room, one of a byte more is none.
+#[test]
+fn a_sheet_that_is_too_long() {
+    let most = u32::MAX - SHEET_HEAD_BYTES as u32;
+    for (width, number) in [(most, 25), (most + 1, 27), (u32::MAX, 27)] {
+        let sheet = hollow_sheet(width);
+        let file = File::open_path(&sheet.0).unwrap();
+        assert_eq!(read(&file, 1000).0, number, "{width} samples");
+    }
 }
