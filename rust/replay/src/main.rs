@@ -126,11 +126,19 @@ fn main() -> ExitCode {
 mod tests {
     use super::*;
 
-    /// The stored list is the one that would be written, and has every number.
+    /// The stored list is the one that would be written, and has every number; a sheet is written with each that a plane
+    /// gives, and read with each of its own.
     #[test]
     fn stored() {
         let steps = list::steps();
         assert_eq!(missing(&steps), []);
+        let given = list::given(&steps);
+        let numbers = |call: &str| {
+            let of = given.iter().filter(|(name, _)| *name == call);
+            of.map(|(_, number)| *number).collect::<Vec<u32>>()
+        };
+        assert_eq!(numbers("sheet"), numbers("plane"));
+        assert_eq!(numbers("read"), [0, 25, 27]);
         assert_eq!(fault(&Stored::read().unwrap(), &steps), None);
     }
 
