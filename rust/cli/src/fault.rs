@@ -8,8 +8,11 @@ const SHORT: u16 = 3;
 const LONG: u16 = 4;
 const RATIONAL: u16 = 5;
 
-/// The fields of a sheet: tag, name and type.
-const FIELDS: [(u16, &str, u16); 13] = [
+/// Tag, name and type.
+type Field = (u16, &'static str, u16);
+
+/// The fields of a sheet.
+const FIELDS: [Field; 13] = [
     (256, "ImageWidth", LONG),
     (257, "ImageLength", LONG),
     (258, "BitsPerSample", SHORT),
@@ -77,7 +80,7 @@ fn differs(what: &str, number: u64, expected: u64) -> Option<String> {
 fn directory(bytes: &[u8]) -> Option<String> {
     let many = u16_at(bytes, DIRECTORY);
     let fields = differs("the number of fields", many.into(), FIELDS.len() as u64);
-    let field = |(i, (tag, name, kind)): (usize, &(u16, &str, u16))| {
+    let field = |(i, (tag, name, kind)): (usize, &Field)| {
         let at = entry(i);
         let of = format!("{tag} {name}");
         let tag_differs = differs(
@@ -121,7 +124,7 @@ fn values(bytes: &[u8]) -> Option<String> {
     let head = SHEET_HEAD_BYTES as u64;
     let expected = [1, 1, head, 1, height, strip, across, down, 1, format];
     let mut fields = FIELDS.iter().enumerate().skip(3).zip(expected);
-    let wrong = |((i, (tag, name, _)), expected): ((usize, &(u16, &str, u16)), u64)| {
+    let wrong = |((i, (tag, name, _)), expected): ((usize, &Field), u64)| {
         differs(&format!("{tag} {name}"), value(bytes, i), expected)
     };
     fields.find_map(wrong)
