@@ -128,7 +128,7 @@ fn times(options: &Options, original: Option<Original>) -> Vec<Verdict> {
     if options.asks_for("sheets") {
         for (components, bits) in SHEETS {
             let sizes = Sizes::packed(options.side, options.side, components, bits);
-            print(sheets::rows(sizes, 4 * repetitions));
+            print(sheets::rows(sizes, 8 * repetitions));
         }
     }
     if options.asks_for("roller") {

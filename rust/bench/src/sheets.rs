@@ -3,9 +3,10 @@
 use crate::cases::{components, copied, proved_plane, row_starts, Case};
 use crate::files;
 use crate::table::{Row, Target};
-use crate::timing::{race_after, turn, Best, Who};
+use crate::timing::{race, race_after, turn, Best, Who};
 use nd2::raw::{self, SHEET_HEAD_BYTES};
 use sample::parts::Sizes;
+use std::cell::RefCell;
 use std::hint::black_box;
 
 /// A sheet may take so much of the plane's time.
@@ -14,7 +15,9 @@ const TARGET: Target = Target {
     most: 1.1,
 };
 
-/// The last component of a file of one frame, written as a sheet; where it is the only one, also read.
+/// The last component of a file of one frame, written as a sheet. The plane beside it goes to where the sheet has its
+/// samples, so that the calls are judged and not the place. Where it is the only component, also with the plane at the
+/// buffer's start, as callers lend it, and read.
 pub fn rows(sizes: Sizes, repetitions: u32) -> Vec<Row> {
     let file = files::one_frame(sizes);
     let case = Case::new(&file, None);
@@ -22,20 +25,21 @@ pub fn rows(sizes: Sizes, repetitions: u32) -> Vec<Row> {
     let start = row_starts(&case)[0];
     let source = &file[start..start + bytes];
     let at = [0, 0, sizes.components - 1, 0];
-    let of = format!("{} of {} bits", components(sizes.components), sizes.bits);
-    let mut rows = vec![Row {
-        what: format!("sheet, {of}"),
+    let row = |what: String, best, target| Row {
+        what,
         bytes,
-        best: case.sheet(at, repetitions, source),
-        target: Some(TARGET),
-    }];
+        best,
+        target,
+    };
+    let of = format!("{} of {} bits", components(sizes.components), sizes.bits);
+    let beside = |place| case.sheet(at, place, repetitions, source);
+    let judged = beside(SHEET_HEAD_BYTES);
+    let mut rows = vec![row(format!("sheet, {of}"), judged, Some(TARGET))];
     if sizes.components == 1 {
-        rows.push(Row {
-            what: format!("sheet read, {} bits", sizes.bits),
-            bytes,
-            best: case.read_sheet(at, repetitions, source),
-            target: None,
-        });
+        let told = format!("sheet, {of}, plane at start");
+        rows.push(row(told, beside(0), None));
+        let read = case.read_sheet(at, repetitions, source);
+        rows.push(row(format!("sheet read, {} bits", sizes.bits), read, None));
     }
     rows
 }
@@ -70,22 +74,39 @@ impl Case<'_> {
         proved
     }
 
-    fn sheet(&self, at: [u64; 4], repetitions: u32, source: &[u8]) -> Best {
+    /// Sheet and plane are written into the same bytes, which are filled before each turn: they find the same memory, and
+    /// the same in the cache. The second implementation, which takes long and leaves much there, is timed by itself.
+    fn sheet(&self, at: [u64; 4], place: usize, repetitions: u32, source: &[u8]) -> Best {
         self.agreed_sheet(at);
-        let (mut proved, mut second) = (self.sheet_buffer(), self.sheet_buffer());
-        let mut plane = vec![1; self.plane_bytes()];
+        let lent = &RefCell::new(self.sheet_buffer());
         let mut copy = vec![1; source.len()];
-        let turns = [
-            turn(move || copied(source, &mut copy)),
-            turn(move || assert!(self.proved_sheet(at, black_box(&mut proved)))),
-            turn(move || assert_eq!(self.second_sheet(at, black_box(&mut second)), 0)),
-            None,
-            turn(move || assert!(proved_plane(&self.proved, at, black_box(&mut plane)))),
-        ];
-        race_after(self.frame_copied(), repetitions, turns)
+        let sheet = move || {
+            let sheet = &mut lent.borrow_mut();
+            assert!(self.proved_sheet(at, black_box(sheet)));
+        };
+        let plane = move || {
+            let samples = &mut lent.borrow_mut()[place..place + source.len()];
+            assert!(proved_plane(&self.proved, at, black_box(samples)));
+        };
+        let mut frame = self.frame_copied();
+        let before = || {
+            frame();
+            lent.borrow_mut().fill(1);
+        };
+        let memcpy = turn(move || copied(source, &mut copy));
+        let turns = [memcpy, turn(sheet), None, None, turn(plane)];
+        let mut best = race_after(before, repetitions, turns);
+        let second = || assert_eq!(self.second_sheet(at, black_box(&mut lent.borrow_mut())), 0);
+        let alone = race(
+            repetitions.div_ceil(8),
+            1,
+            [None, None, turn(second), None, None],
+        );
+        best[Who::Second as usize] = alone[Who::Second as usize];
+        best
     }
 
-    /// Copies the file, which is little more than its frame: before each turn, so that all find the same in the cache.
+    /// Copies the file, which is little more than its frame.
     fn frame_copied(&self) -> impl FnMut() + '_ {
         let mut copy = vec![1; self.file.len()];
         move || copied(self.file, &mut copy)
