@@ -37,40 +37,37 @@ pub fn race(repetitions: u32, batch: u32, turns: [Turn; 5]) -> Best {
 }
 
 /// The same, where each contender goes so often in a row: from the second time on its bytes may be in the cache.
-pub fn race_in_a_row(in_a_row: u32, repetitions: u32, batch: u32, turns: [Turn; 5]) -> Best {
+pub fn race_in_a_row(in_a_row: u32, repetitions: u32, batch: u32, mut turns: [Turn; 5]) -> Best {
     let mut best: Best = [None; 5];
-    each(repetitions, turns, |counts, once, who| {
-        for _ in 0..in_a_row {
-            keep(&mut best[who], counts, timed(batch, once));
-        }
-    });
-    best
-}
-
-/// The same with one turn at a time and, before each of them and not timed, something that leaves the cache alike for
-/// all.
-pub fn race_after(mut before: impl FnMut(), repetitions: u32, turns: [Turn; 5]) -> Best {
-    let mut best: Best = [None; 5];
-    each(repetitions, turns, |counts, once, who| {
-        before();
-        keep(&mut best[who], counts, timed(1, once));
-    });
-    best
-}
-
-/// Gives each contender its turns, with its place, and whether they count: not in the first round.
-fn each(
-    repetitions: u32,
-    mut turns: [Turn; 5],
-    mut take: impl FnMut(bool, &mut dyn FnMut(), usize),
-) {
     for repetition in 0..=repetitions {
-        for (who, turn) in turns.iter_mut().enumerate() {
-            if let Some(once) = turn {
-                take(repetition > 0, once, who);
+        for (turn, best) in turns.iter_mut().zip(&mut best) {
+            let Some(once) = turn else { continue };
+            for _ in 0..in_a_row {
+                keep(best, repetition > 0, timed(batch, once));
             }
         }
     }
+    best
+}
+
+/// The same with one turn at a time, back and forth, and before each of them, not timed, something that leaves the cache
+/// alike for all.
+pub fn race_after(mut before: impl FnMut(), repetitions: u32, mut turns: [Turn; 5]) -> Best {
+    let mut best: Best = [None; 5];
+    for repetition in 0..=repetitions {
+        let mut order = [0, 1, 2, 3, 4];
+        if repetition % 2 == 1 {
+            order.reverse();
+        }
+        for who in order {
+            let Some(once) = &mut turns[who] else {
+                continue;
+            };
+            before();
+            keep(&mut best[who], repetition > 0, timed(1, once));
+        }
+    }
+    best
 }
 
 fn keep(best: &mut Option<f64>, counts: bool, seconds: f64) {
