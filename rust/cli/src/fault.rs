@@ -164,12 +164,6 @@ mod tests {
         reader.sheet(0, 0, 0, 0).unwrap()
     }
 
-    fn but(at: usize, byte: u8) -> String {
-        let mut bytes = good();
-        bytes[at] = byte;
-        of(&bytes).unwrap_or_default()
-    }
-
     #[test]
     fn there_is_a_fault_where_there_is_no_sheet() {
         let good = good();
@@ -186,50 +180,54 @@ mod tests {
         }
     }
 
+    fn told(bytes: &[u8]) -> String {
+        of(bytes).unwrap_or_default()
+    }
+
     #[test]
-    fn the_first_fault_is_told() {
-        assert_eq!(
-            of(b"MM\0*").unwrap(),
-            "it is a big-endian TIFF, a sheet is little-endian"
-        );
-        assert_eq!(of(b"GIF89a").unwrap(), "it does not begin as a TIFF");
-        assert_eq!(
-            of(&good()[..20]).unwrap(),
-            "it has 20 bytes, a sheet 186 before its samples"
-        );
-        assert_eq!(but(4, 9), "the directory's place is 9, in a sheet 8");
-        assert_eq!(but(8, 14), "the number of fields is 14, in a sheet 13");
-        assert_eq!(but(10, 254), "the tag of field 1 is 510, in a sheet 256");
-        assert_eq!(but(12, 3), "the type of 256 ImageWidth is 3, in a sheet 4");
-        assert_eq!(
-            but(38, 3),
-            "the number of values of 258 BitsPerSample is 3, in a sheet 1"
-        );
-        assert_eq!(but(18, 0), "it says 0 x 1 samples");
-        assert_eq!(
-            but(42, 12),
-            "258 BitsPerSample is 12, in a sheet 8, 16 or 32"
-        );
-        assert_eq!(but(54, 5), "259 Compression is 5, in a sheet 1");
-        assert_eq!(but(114, 3), "279 StripByteCounts is 3, in a sheet 4");
-        assert_eq!(
-            but(166, 8),
-            "the place of a further directory is 8, in a sheet 0"
-        );
-        assert_eq!(
-            but(178, 72),
-            "the resolution at byte 178 is 72/1, in a sheet 1/1"
-        );
+    fn what_is_wrong_with_the_file_is_told() {
+        let big = "it is a big-endian TIFF, a sheet is little-endian";
+        assert_eq!(told(b"MM\0*"), big);
+        assert_eq!(told(b"GIF89a"), "it does not begin as a TIFF");
+        let short = "it has 20 bytes, a sheet 186 before its samples";
+        assert_eq!(told(&good()[..20]), short);
         let mut longer = good();
         longer.push(0);
-        assert_eq!(
-            of(&longer).unwrap(),
-            "it is 1 byte longer than its sizes say"
-        );
-        longer.truncate(188);
-        assert_eq!(
-            of(&longer).unwrap(),
-            "it is 2 bytes shorter than its sizes say"
-        );
+        assert_eq!(told(&longer), "it is 1 byte longer than its sizes say");
+        let shorter = "it is 2 bytes shorter than its sizes say";
+        assert_eq!(told(&longer[..188]), shorter);
+    }
+
+    #[test]
+    fn the_first_number_that_is_wrong_is_told() {
+        for (at, byte, what) in [
+            (4, 9, "the directory's place is 9, in a sheet 8"),
+            (8, 14, "the number of fields is 14, in a sheet 13"),
+            (10, 254, "the tag of field 1 is 510, in a sheet 256"),
+            (12, 3, "the type of 256 ImageWidth is 3, in a sheet 4"),
+            (
+                38,
+                3,
+                "the number of values of 258 BitsPerSample is 3, in a sheet 1",
+            ),
+            (18, 0, "it says 0 x 1 samples"),
+            (42, 12, "258 BitsPerSample is 12, in a sheet 8, 16 or 32"),
+            (54, 5, "259 Compression is 5, in a sheet 1"),
+            (114, 3, "279 StripByteCounts is 3, in a sheet 4"),
+            (
+                166,
+                8,
+                "the place of a further directory is 8, in a sheet 0",
+            ),
+            (
+                178,
+                72,
+                "the resolution at byte 178 is 72/1, in a sheet 1/1",
+            ),
+        ] {
+            let mut bytes = good();
+            bytes[at] = byte;
+            assert_eq!(told(&bytes), what);
+        }
     }
 }

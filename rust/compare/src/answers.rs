@@ -110,6 +110,19 @@ impl Answers {
                 "register, short buffer",
                 self.short_register == other.short_register,
             ),
+            ("refused summaries", self.wild == other.wild),
+            ("strange summaries", self.strange == other.strange),
+            ("lent bytes", self.faults == other.faults),
+        ];
+        let same = same.into_iter().chain(self.same_sheets(other));
+        let differing = same.filter(|(_, same)| !same);
+        let told = |(call, _)| format!("{call}: other answers than the first reader's");
+        differing.map(told).collect()
+    }
+
+    /// The calls with sheets, and whether other answers are these.
+    fn same_sheets(&self, other: &Answers) -> [(&'static str, bool); 5] {
+        [
             ("sheets", self.sheets == other.sheets),
             (
                 "sheets, short buffer",
@@ -121,13 +134,7 @@ impl Answers {
                 self.short_reads == other.short_reads,
             ),
             ("damaged sheets read", self.damaged == other.damaged),
-            ("refused summaries", self.wild == other.wild),
-            ("strange summaries", self.strange == other.strange),
-            ("lent bytes", self.faults == other.faults),
-        ];
-        let differing = same.into_iter().filter(|(_, same)| !same);
-        let told = |(call, _)| format!("{call}: other answers than the first reader's");
-        differing.map(told).collect()
+        ]
     }
 }
 

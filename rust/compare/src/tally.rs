@@ -132,9 +132,6 @@ fn numbers(a: &Answers) -> [Vec<u32>; 8] {
     let register = [a.register.as_ref().map(|l| l.number), a.short_register];
     let wild = |call: usize| a.wild.iter().map(move |numbers| numbers[call]);
     let short = a.short_planes.iter().copied();
-    let sheets = a.sheets.iter().map(|l| l.number);
-    let sheets = sheets.chain(a.short_sheets.iter().copied());
-    let reads = a.reads.iter().chain(&a.short_reads).chain(&a.damaged);
     let strange = |number: fn(&Strange) -> u32| a.strange.iter().map(number);
     [
         open.map(|o| o.err().unwrap_or(0)).collect(),
@@ -160,10 +157,20 @@ fn numbers(a: &Answers) -> [Vec<u32>; 8] {
             .chain(wild(3))
             .chain(strange(|s| s.register.number))
             .collect(),
-        sheets
-            .chain(wild(4))
-            .chain(strange(|s| s.sheet.number))
-            .collect(),
-        reads.map(|read| read.number).collect(),
+        sheets(a),
+        reads(a),
     ]
+}
+
+fn sheets(a: &Answers) -> Vec<u32> {
+    let written = a.sheets.iter().map(|l| l.number);
+    let wild = a.wild.iter().map(|numbers| numbers[4]);
+    let strange = a.strange.iter().map(|s| s.sheet.number);
+    let short = a.short_sheets.iter().copied();
+    written.chain(short).chain(wild).chain(strange).collect()
+}
+
+fn reads(a: &Answers) -> Vec<u32> {
+    let reads = a.reads.iter().chain(&a.short_reads).chain(&a.damaged);
+    reads.map(|read| read.number).collect()
 }

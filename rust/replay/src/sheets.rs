@@ -140,7 +140,16 @@ fn but(changes: &[(usize, u32)], samples: usize) -> Vec<u8> {
 
 /// Sheets in which several things were changed, each under its own label.
 fn rules() -> Vec<(&'static str, Vec<u8>)> {
-    let half = 1 << 31;
+    let mut rules = zeros_and_bits();
+    rules.extend(sizes_changed());
+    rules.extend([
+        ("a strip at byte 187", but(&[(STRIP, 187)], 9)),
+        ("another directory", but(&[(NEXT, 8)], 8)),
+    ]);
+    rules
+}
+
+fn zeros_and_bits() -> Vec<(&'static str, Vec<u8>)> {
     vec![
         ("a width of 0", but(&[(WIDTH, 0), (BYTES, 0)], 0)),
         (
@@ -159,6 +168,14 @@ fn rules() -> Vec<(&'static str, Vec<u8>)> {
             "32 bits as floats",
             but(&[(BITS, 32), (FORMAT, 3), (BYTES, 16)], 16),
         ),
+    ]
+}
+
+fn sizes_changed() -> Vec<(&'static str, Vec<u8>)> {
+    let half = 1 << 31;
+    let mut wraps = [WIDTH, HEIGHT, ROWS].map(|at| (at, half)).to_vec();
+    wraps.extend([(BITS, 32), (FORMAT, 3), (BYTES, 0)]);
+    vec![
         (
             "four samples in a row",
             but(&[(WIDTH, 4), (HEIGHT, 1), (ROWS, 1)], 8),
@@ -172,25 +189,10 @@ fn rules() -> Vec<(&'static str, Vec<u8>)> {
             but(&[(WIDTH, 3), (BYTES, 12)], 8),
         ),
         ("bytes that are no whole rows", but(&[(BYTES, 9)], 9)),
-        (
-            "2^31 by 2^31 samples of 32 bits",
-            but(
-                &[
-                    (WIDTH, half),
-                    (HEIGHT, half),
-                    (ROWS, half),
-                    (BITS, 32),
-                    (FORMAT, 3),
-                    (BYTES, 0),
-                ],
-                0,
-            ),
-        ),
+        ("2^31 by 2^31 samples of 32 bits", but(&wraps, 0)),
         (
             "sizes of 2^32 - 1",
             but(&[WIDTH, HEIGHT, ROWS, BYTES].map(|at| (at, u32::MAX)), 8),
         ),
-        ("a strip at byte 187", but(&[(STRIP, 187)], 9)),
-        ("another directory", but(&[(NEXT, 8)], 8)),
     ]
 }
