@@ -2,8 +2,8 @@
  *
  *   damaged FILE ROUNDS SEED
  *
- * FILE is a good file of less than a megabyte, as `cargo run -p sample --example roller -- FILE 24 11 2 8 8` in rust/ writes one. Each round damages a copy of it, and asks open, plane, tree, channels, register and the border call, with
- * summaries that were opened and with damaged ones, and with buffers of random lengths. A call that reads or writes past a buffer ends the program by a signal;
+ * FILE is a good file of less than a megabyte, as `cargo run -p sample --example roller -- FILE 24 11 2 8 8` in rust/ writes one. Each round damages a copy of it, and asks open, plane, sheet, tree, channels, register and the border call, with
+ * summaries that were opened and with damaged ones, and with buffers of random lengths; a sheet that was written is read back, damaged and read again. A call that reads or writes past a buffer ends the program by a signal;
  * built with -fsanitize=address the program's own side is watched too. Exit status 0: nothing found.
  */
 #include <stdint.h>
@@ -80,7 +80,9 @@ static int all(const uint8_t *p, size_t n, int v)
 
 /* ---- what is looked at */
 
-static unsigned long calls, accepted, refusals[26];
+enum { NUMBERS = ND2_SHEET_LAYOUT + 1 };
+
+static unsigned long calls, accepted, refusals[NUMBERS];
 static uint64_t seed, round_now;
 
 static void fail(const char *what, uint32_t number)
@@ -92,7 +94,7 @@ static void fail(const char *what, uint32_t number)
 static uint32_t told(const char *call, uint32_t number, const lent *a, const lent *b)
 {
     calls++;
-    if (number > 25)
+    if (number >= NUMBERS)
         fail(call, number);
     refusals[number]++;
     accepted += number == 0;
@@ -105,7 +107,7 @@ static uint32_t told(const char *call, uint32_t number, const lent *a, const len
 
 /* ---- the calls */
 
-static lent file, table, summary, samples, name;
+static lent file, table, summary, samples, name, sheet;
 
 static size_t table_len(void)
 {
@@ -218,6 +220,72 @@ static void damage_file(void)
     }
 }
 
+/* ---- sheets */
+
+typedef struct sizes {
+    uint64_t width, height, bits;
+} sizes;
+
+/* Reads the lent sheet with room for so many bytes of samples. */
+static uint32_t read_sheet(size_t room, sizes *s)
+{
+    lend(&samples, room, 0x77);
+    memset(s, 0x77, sizeof *s);
+    uint32_t n = told("sheet read", nd2_sheet_read(sheet.at, sheet.len, samples.at, samples.len, &s->width, &s->height, &s->bits), &samples, &sheet);
+    if (n != 0 && !all(samples.at, samples.len, 0x77))
+        fail("a refused sheet changed the samples", n);
+    if (n != 0 && (s->width | s->height | s->bits) != 0)
+        fail("a refused sheet left its sizes", n);
+    return n;
+}
+
+/* What the sizes say of a sheet's length has to hold for what is taken. */
+static void hold_to_length(const sizes *s, uint32_t n)
+{
+    if (n == 0 && s->width * s->height * (s->bits / 8) != sheet.len - ND2_SHEET_HEAD_BYTES)
+        fail("a sheet of another length was taken", n);
+}
+
+/* A sheet of `len` bytes that was written: read back, read with too little room, cut or damaged and read again. */
+static void ask_sheet_read(size_t len)
+{
+    static uint8_t written[ROOM];
+    sizes s;
+    size_t strip = len - ND2_SHEET_HEAD_BYTES;
+    memcpy(written, sheet.at, len);
+    lend_copy(&sheet, written, len);
+    uint32_t n = read_sheet(strip + below(9), &s);
+    if (n != 0 || memcmp(samples.at, written + ND2_SHEET_HEAD_BYTES, strip) != 0 || !all(samples.at + strip, samples.len - strip, 0x77))
+        fail("a sheet that was written is not read back", n);
+    hold_to_length(&s, n);
+    n = read_sheet(below(strip), &s);
+    if (n != ND2_BUFFER)
+        fail("a sheet is read into too little room", n);
+    lend_copy(&sheet, written, below(4) ? len : below(len + 1));
+    damage(sheet.at, below(4) && sheet.len > ND2_SHEET_HEAD_BYTES ? ND2_SHEET_HEAD_BYTES : sheet.len);
+    n = read_sheet(below(4) ? strip : below(strip), &s);
+    hold_to_length(&s, n);
+}
+
+static void ask_sheet(void)
+{
+    lend(&sheet, below(4) ? 40000 : below(9000), 0x77);
+    lend(&table, 0, 0);
+    uint64_t point = below(26), t = below(10) ? 0 : below(3), c = below(3), z = below(12);
+    uint32_t n = told("sheet", nd2_sheet(file.at, file.len, summary.at, summary.len, point, t, c, z, sheet.at, sheet.len), &sheet, &table);
+    if (n != 0) {
+        if (!all(sheet.at, sheet.len, 0x77))
+            fail("a refused sheet changed the buffer", n);
+        return;
+    }
+    nd2_summary s;
+    memcpy(&s, summary.at, sizeof s);
+    size_t len = ND2_SHEET_HEAD_BYTES + s.width * s.height * (s.bits / 8);
+    if (len > sheet.len || !all(sheet.at + len, sheet.len - len, 0x77))
+        fail("a sheet changed later bytes", n);
+    ask_sheet_read(len);
+}
+
 static void ask_all(const uint8_t *bytes, size_t len)
 {
     lend_copy(&file, bytes, below(8) ? len : below(len + 1));
@@ -227,6 +295,7 @@ static void ask_all(const uint8_t *bytes, size_t len)
         damage(summary.at, summary.len);
     ask_plane();
     ask_plane();
+    ask_sheet();
     ask_tree();
     ask_channels();
     ask_register();
@@ -253,11 +322,11 @@ int main(int argc, char **argv)
     }
     seed = strtoull(argv[3], NULL, 10);
     state = seed * 2 + 1;
-    file = new_lent(), table = new_lent(), summary = new_lent(), samples = new_lent(), name = new_lent();
+    file = new_lent(), table = new_lent(), summary = new_lent(), samples = new_lent(), name = new_lent(), sheet = new_lent();
     for (round_now = 0; round_now < strtoull(argv[2], NULL, 10); round_now++)
         ask_all(bytes, len);
     printf("%lu calls, %lu accepted; refused by number:", calls, accepted);
-    for (int i = 1; i <= 25; i++)
+    for (int i = 1; i < NUMBERS; i++)
         if (refusals[i])
             printf(" %d: %lu", i, refusals[i]);
     printf("\n");

@@ -4,8 +4,8 @@
  * buffer is lent by the caller, and a call may be made from any thread. A slice is a pointer and a length in bytes; an empty one may have any
  * pointer that is not null. The buffers of one call may not overlap where one of them is written. All numbers in buffers are little-endian.
  *
- * Every call returns 0, or the number of the first refusal that holds (ND2_...). On a refusal samples and register keep every byte, and table,
- * summary and channel records are all zero.
+ * Every call returns 0, or the number of the first refusal that holds (ND2_...). On a refusal samples, register and sheet keep every byte, and
+ * table, summary, channel records and the numbers of a sheet are all zero.
  */
 #ifndef ND2_H
 #define ND2_H
@@ -45,7 +45,9 @@ enum {
     ND2_CEILING = 22,     /* a plane has more than 2^32 bytes */
     ND2_NO_FRAME = 23,    /* the map has no entry for the frame */
     ND2_FRAME_SHORT = 24, /* the frame's data is too short */
-    ND2_BUFFER = 25       /* the lent samples or register are too short */
+    ND2_BUFFER = 25,      /* the lent samples, register or sheet are too short */
+    ND2_SHEET_LONG = 26,  /* a sheet would have more than 4,294,967,295 bytes */
+    ND2_SHEET_LAYOUT = 27 /* the sheet is not of this reader's layout */
 };
 
 /* ---- layouts */
@@ -54,7 +56,8 @@ enum {
     ND2_SUMMARY_BYTES = 144,
     ND2_CHANNEL_BYTES = 56,
     ND2_ENTRY_BYTES = 48,
-    ND2_FRAME_BYTES = 24
+    ND2_FRAME_BYTES = 24,
+    ND2_SHEET_HEAD_BYTES = 186 /* of a sheet, before its samples */
 };
 
 /* the axes of loops */
@@ -126,6 +129,17 @@ uint32_t nd2_open(const uint8_t *file, size_t file_len, uint8_t *table, size_t t
 /* Writes width * height samples of component c at a point, row by row, bytes as in the file. Later bytes of the buffer are untouched. */
 uint32_t nd2_plane(const uint8_t *file, size_t file_len, const uint8_t *summary, size_t summary_len, uint64_t scene, uint64_t t, uint64_t c,
                    uint64_t z, uint8_t *samples, size_t samples_len);
+
+/* Writes the plane of nd2_plane as a TIFF sheet: a little-endian TIFF 6.0 of one uncompressed strip, ND2_SHEET_HEAD_BYTES and then
+ * width * height samples. Samples of 8 and 16 bits are whole numbers, of 32 bits floats. Later bytes of the buffer are untouched, on a refusal all
+ * of them. 26 comes after what is wrong with the frame and before 25. */
+uint32_t nd2_sheet(const uint8_t *file, size_t file_len, const uint8_t *summary, size_t summary_len, uint64_t scene, uint64_t t, uint64_t c,
+                   uint64_t z, uint8_t *sheet, size_t sheet_len);
+
+/* Reads a sheet: its samples to the front of the lent ones, later bytes untouched, and its sizes. Only what nd2_sheet writes is read; all else,
+ * other TIFF files too, is 27, before the samples are looked at (25). On a refusal no byte of the samples changes and the three numbers are 0. */
+uint32_t nd2_sheet_read(const uint8_t *sheet, size_t sheet_len, uint8_t *samples, size_t samples_len, uint64_t *width, uint64_t *height,
+                        uint64_t *bits);
 
 /* Reads the tree of a chunk: one entry for each record, in file order, the rest of the table zero. A name includes its '!'. */
 uint32_t nd2_tree(const uint8_t *file, size_t file_len, const uint8_t *summary, size_t summary_len, const uint8_t *name, size_t name_len,

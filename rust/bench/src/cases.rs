@@ -15,10 +15,10 @@ const FRAME_BYTES: usize = 24;
 const OFTEN: u32 = 200;
 
 /// One file, opened by all contenders.
-struct Case<'f> {
-    file: &'f [u8],
-    proved: Reader<'f>,
-    second: Summary,
+pub struct Case<'f> {
+    pub file: &'f [u8],
+    pub proved: Reader<'f>,
+    pub second: Summary,
     original: Option<Opened<'f>>,
 }
 
@@ -31,18 +31,18 @@ fn second_plane(file: &[u8], summary: &Summary, at: [u64; 4], samples: &mut [u8]
     second::plane(file, summary, scene, t, c, z, samples)
 }
 
-fn proved_plane(reader: &Reader, at: [u64; 4], samples: &mut [u8]) -> bool {
+pub fn proved_plane(reader: &Reader, at: [u64; 4], samples: &mut [u8]) -> bool {
     let [scene, t, c, z] = at;
     reader.plane_into(scene, t, c, z, samples).is_ok()
 }
 
-fn copied(from: &[u8], to: &mut [u8]) {
+pub fn copied(from: &[u8], to: &mut [u8]) {
     to.copy_from_slice(from);
     black_box(to);
 }
 
 impl<'f> Case<'f> {
-    fn new(file: &'f [u8], original: Option<Original>) -> Case<'f> {
+    pub fn new(file: &'f [u8], original: Option<Original>) -> Case<'f> {
         let original = original.map(|o| o.open(file).expect("the original opens it"));
         Case {
             file,
@@ -57,7 +57,7 @@ impl<'f> Case<'f> {
         &self.file[start..start + self.proved.summary().map_len as usize]
     }
 
-    fn plane_bytes(&self) -> usize {
+    pub fn plane_bytes(&self) -> usize {
         self.proved.summary().plane_bytes() as usize
     }
 
@@ -96,6 +96,7 @@ impl<'f> Case<'f> {
             self.original
                 .as_ref()
                 .and_then(|o| turn(move || assert!(o.plane(at) > 0))),
+            None,
         ];
         race_in_a_row(in_a_row, repetitions, 1, turns)
     }
@@ -109,6 +110,7 @@ impl<'f> Case<'f> {
             turn(move || assert!(black_box(Reader::open(file)).is_ok())),
             turn(move || assert!(black_box(second_open(file)).is_some())),
             original.and_then(|o| turn(move || assert!(black_box(o.open(file)).is_some()))),
+            None,
         ];
         race(repetitions, batch, turns)
     }
@@ -131,6 +133,7 @@ impl<'f> Case<'f> {
             self.original.as_ref().and_then(|o| {
                 turn(move || assert_eq!(o.register(black_box(&mut original)), bytes))
             }),
+            None,
         ];
         race(repetitions, batch, turns)
     }
@@ -186,7 +189,7 @@ pub fn plane(sizes: Sizes, original: Option<Original>, repetitions: u32) -> Vec<
     rows
 }
 
-fn components(count: u64) -> String {
+pub fn components(count: u64) -> String {
     match count {
         1 => "1 component".to_string(),
         count => format!("{count} components"),
@@ -203,7 +206,7 @@ fn plane_target(sizes: Sizes, plain: bool) -> Option<Target> {
 }
 
 /// Where the rows of each frame begin in the file: after the head, the name and the prefix of its chunk.
-fn row_starts(case: &Case) -> Vec<usize> {
+pub fn row_starts(case: &Case) -> Vec<usize> {
     let frames = case.proved.register().expect("a register");
     let start = |offset: usize| {
         let name: [u8; 4] = [4, 5, 6, 7].map(|i| case.file[offset + i]);
@@ -281,6 +284,7 @@ fn all_planes(case: &Case, original: Option<Original>, repetitions: u32) -> Best
                 places.iter().for_each(|at| assert!(opened.plane(*at) > 0));
             })
         }),
+        None,
     ];
     race(repetitions, 1, turns)
 }

@@ -1,6 +1,6 @@
 //! Times the proved reader beside memcpy, the second implementation and the original.
 //!
-//!     bench [ORIGINAL_FOLDER] [--only planes|roller|map] [--side N] [--roller-side N] [--entries N] [--repetitions N]
+//!     bench [ORIGINAL_FOLDER] [--only planes|sheets|roller|map] [--side N] [--roller-side N] [--entries N] [--repetitions N]
 //!
 //! ORIGINAL_FOLDER has the original's nd2_reader.rs, calibration.rs, types.rs and guard.rs; without it the original is
 //! left out. Planes have N x N samples (--side, 2048); those of the roller, of which there are 528, N x N too
@@ -12,11 +12,12 @@ mod cases;
 mod files;
 mod memory;
 mod original;
+mod sheets;
 mod table;
 mod timing;
 
 use nd2::raw::read_plane;
-use nd2::Reader;
+use nd2::{Reader, Sheet};
 use original::Original;
 use sample::parts::Sizes;
 use std::io;
@@ -26,7 +27,10 @@ use std::process::ExitCode;
 use table::{Row, Verdict};
 
 const USAGE: &str = "\
-usage: bench [ORIGINAL_FOLDER] [--only planes|roller|map] [--side N] [--roller-side N] [--entries N] [--repetitions N]";
+usage: bench [ORIGINAL_FOLDER] [--only planes|sheets|roller|map] [--side N] [--roller-side N] [--entries N] [--repetitions N]";
+
+/// Components and bits of the planes that are written as sheets.
+const SHEETS: [(u64, u64); 6] = [(1, 8), (1, 16), (1, 32), (3, 8), (3, 16), (3, 32)];
 
 /// A map of fewer has no frames, and one of more is refused.
 const ENTRIES: RangeInclusive<u32> = 4..=2_000_000;
@@ -76,7 +80,7 @@ fn options() -> Option<Options> {
 }
 
 fn group(name: &str) -> Option<String> {
-    ["planes", "roller", "map"]
+    ["planes", "sheets", "roller", "map"]
         .contains(&name)
         .then(|| name.to_string())
 }
@@ -121,6 +125,12 @@ fn times(options: &Options, original: Option<Original>) -> Vec<Verdict> {
             print(cases::plane(sizes, original, 4 * repetitions));
         }
     }
+    if options.asks_for("sheets") {
+        for (components, bits) in SHEETS {
+            let sizes = Sizes::packed(options.side, options.side, components, bits);
+            print(sheets::rows(sizes, 8 * repetitions));
+        }
+    }
     if options.asks_for("roller") {
         print(cases::roller(options.roller_side, original, repetitions));
     }
@@ -129,7 +139,7 @@ fn times(options: &Options, original: Option<Original>) -> Vec<Verdict> {
     }
     println!();
     println!("'bytes' are what memcpy copies: those of the planes, otherwise those of the map. The original has no register:");
-    println!("its map is asked for each frame.");
+    println!("its map is asked for each frame; nor has it sheets: these stand beside the proved reader's plane.");
     let so_many = |which| verdicts.iter().filter(|&&verdict| verdict == which).count();
     let [met, missed] = [Verdict::Met, Verdict::Missed].map(so_many);
     let not_run = so_many(Verdict::NotRun);
@@ -201,7 +211,7 @@ impl Memory {
         }
         match &self.stack {
             Ok(bytes) => {
-                println!("  stack     {bytes} bytes in the six calls, on a tree of 64 levels too")
+                println!("  stack     {bytes} bytes in the eight calls, on a tree of 64 levels too")
             }
             Err(error) => println!("  stack     {error}"),
         }
@@ -216,6 +226,8 @@ fn all_calls(file: &[u8]) -> impl FnMut() + '_ {
         assert_eq!(reader.tree(files::DEEP).expect("a tree").len(), 65);
         let mut samples = reader.plane(0, 0, 1, 0).expect("a plane");
         assert!(reader.channels().is_ok() && reader.register().is_ok());
+        let sheet = reader.sheet(0, 0, 1, 0).expect("a sheet");
+        assert_eq!(Sheet::read(&sheet).expect("a sheet").samples, samples);
         assert_eq!(read_plane(file, &mut table, [0, 0, 1, 0], &mut samples), 0);
     }
 }

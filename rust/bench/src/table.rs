@@ -61,6 +61,7 @@ pub fn name(who: Who) -> &'static str {
         Who::Proved => "proved",
         Who::Second => "second",
         Who::Original => "original",
+        Who::Plane => "plane",
     }
 }
 
@@ -83,8 +84,8 @@ pub fn head() {
     print!("{:46} {:>12}", "", "bytes");
     ALL.iter().for_each(|who| print!(" {:>9}", name(*who)));
     println!(
-        "  {:>8} {:>8} {:>9}  target",
-        "/memcpy", "/second", "/original"
+        "  {:>8} {:>8} {:>9} {:>7}  target",
+        "/memcpy", "/second", "/original", "/plane"
     );
 }
 
@@ -95,10 +96,11 @@ pub fn print(row: &Row) -> Option<Verdict> {
         .iter()
         .for_each(|best| print!(" {:>9}", milliseconds(*best)));
     println!(
-        "  {:>8} {:>8} {:>9}  {}",
+        "  {:>8} {:>8} {:>9} {:>7}  {}",
         shown(row.ratio(Who::Memcpy)),
         shown(row.ratio(Who::Second)),
         shown(row.ratio(Who::Original)),
+        shown(row.ratio(Who::Plane)),
         row.told(),
     );
     row.verdict()

@@ -19,6 +19,11 @@ fn every_case_is_in_the_table() {
         "plane, 1 component of 16 bits, in a row",
         "plane, 1 component of 32 bits, padded rows",
         "plane, 3 components of 8 bits",
+        "sheet, 1 component of 16 bits ",
+        "sheet, 1 component of 8 bits, plane at start",
+        "sheet, 3 components of 32 bits",
+        "sheet read, 16 bits",
+        "1.1 x plane: ",
         "open a roller, 4 x 4",
         "register of a roller",
         "open, then all 528 planes",
@@ -26,7 +31,7 @@ fn every_case_is_in_the_table() {
         "register of 98 frames",
         "0.5 x original: not run",
         " missed, 4 not run (they need the original).",
-        "bytes in the six calls, on a tree of 64 levels",
+        "bytes in the eight calls, on a tree of 64 levels",
     ] {
         assert!(told.contains(part), "{part:?} is not in {told}");
     }

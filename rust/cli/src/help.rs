@@ -4,8 +4,9 @@ pub const ALL: &str = "\
 usage: nd2 COMMAND ...
 
   nd2 info FILE [--json]      sizes, loops, pixel size, channels, frames that are there
-  nd2 plane FILE --scene N --t N --c N --z N -o OUT.pgm|OUT.raw
+  nd2 plane FILE --scene N --t N --c N --z N -o OUT.tif|OUT.pgm|OUT.raw
                               writes one plane
+  nd2 sheet FILE [--json]     a plane that was written as OUT.tif: sizes, smallest and largest sample
   nd2 register FILE [--json]  each frame: scene, t, z and where it is in the file
   nd2 tree FILE CHUNK         the tree of a chunk, names and values
   nd2 check FILE...           reads every plane
@@ -26,7 +27,7 @@ are absent.
 ";
 
 pub const PLANE: &str = "\
-usage: nd2 plane FILE --scene N --t N --c N --z N -o OUT.pgm|OUT.raw
+usage: nd2 plane FILE --scene N --t N --c N --z N -o OUT.tif|OUT.pgm|OUT.raw
 
 Writes the samples of one plane. Indices count from 0; one may be left out where there is only one value.
 
@@ -34,8 +35,18 @@ Writes the samples of one plane. Indices count from 0; one may be left out where
   --t N        the time
   --c N        the component
   --z N        the focus step
-  -o OUT       OUT.pgm: a binary PGM of 8 or 16 bits, the samples of 16 bits big-endian as that format has them;
-               OUT.raw: the samples alone, little-endian as in the file. Samples of 32 bits are for OUT.raw only
+  -o OUT       OUT.tif or OUT.tiff: a sheet, that is a TIFF of one uncompressed strip; samples of 32 bits are floats;
+               OUT.pgm: a binary PGM of 8 or 16 bits, the samples of 16 bits big-endian as that format has them;
+               OUT.raw: the samples alone, little-endian as in the file. Samples of 32 bits do not fit OUT.pgm
+";
+
+pub const SHEET: &str = "\
+usage: nd2 sheet FILE [--json]
+
+Reads a TIFF sheet as 'nd2 plane' writes it to OUT.tif: prints its sizes, and its smallest and its largest sample. Other
+TIFF files are turned away; it says what the first thing is in which they are no sheet.
+
+  --json    the same as one JSON object
 ";
 
 pub const REGISTER: &str = "\

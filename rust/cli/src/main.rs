@@ -1,10 +1,11 @@
-//! nd2: what is in an ND2 file, its planes, its frames and its trees.
+//! nd2: what is in an ND2 file, its planes, its frames and its trees; and what is in a TIFF sheet of a plane.
 //!
 //! Exit status: 0 where all was done, 1 where something was refused or failed, 2 for wrong usage.
 
 mod arguments;
 mod check;
 mod failure;
+mod fault;
 mod help;
 mod info;
 mod json;
@@ -12,6 +13,7 @@ mod open;
 mod plane;
 mod register;
 mod sample_file;
+mod sheet;
 mod text;
 mod tree;
 
@@ -27,9 +29,10 @@ const WRONG_USAGE: u8 = 2;
 /// A command: its name, what it does with its arguments, and its help.
 type Command = (&'static str, fn(Arguments) -> Done, &'static str);
 
-const COMMANDS: [Command; 6] = [
+const COMMANDS: [Command; 7] = [
     ("info", info::run, help::INFO),
     ("plane", plane::run, help::PLANE),
+    ("sheet", sheet::run, help::SHEET),
     ("register", register::run, help::REGISTER),
     ("tree", tree::run, help::TREE),
     ("check", check::run, help::CHECK),

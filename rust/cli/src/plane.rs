@@ -1,4 +1,4 @@
-//! `nd2 plane`: one plane, as a PGM or as it is.
+//! `nd2 plane`: one plane, as a TIFF sheet, as a PGM or as it is.
 
 use crate::arguments::Arguments;
 use crate::failure::{Done, Failure};
@@ -12,6 +12,7 @@ use std::path::Path;
 
 #[derive(Clone, Copy, PartialEq, Eq)]
 enum Form {
+    Sheet,
     Pgm,
     Raw,
 }
@@ -48,13 +49,16 @@ pub fn run(mut arguments: Arguments) -> Done {
     let reader = open::reader(&path, &file)?;
     let at = asked.at(reader.summary())?;
     if form == Form::Pgm && reader.summary().bits == 32 {
-        let what = "samples of 32 bits do not fit a PGM; write them to a .raw file";
+        let what = "samples of 32 bits do not fit a PGM; write them to a .tif or a .raw file";
         return Err(Failure::at(text::of_os(&path), what));
     }
     different(&path, &output)?;
-    let samples = reader.plane(at.scene, at.t, at.c, at.z);
-    let samples = samples.map_err(|refusal| refused(&path, &reader, at, refusal))?;
-    let written = write(&output, form, reader.summary(), &samples);
+    let read = match form {
+        Form::Sheet => reader.sheet(at.scene, at.t, at.c, at.z),
+        Form::Pgm | Form::Raw => reader.plane(at.scene, at.t, at.c, at.z),
+    };
+    let bytes = read.map_err(|refusal| refused(&path, &reader, at, refusal))?;
+    let written = write(&output, form, reader.summary(), &bytes);
     written.map_err(|error| Failure::at(text::of_os(&output), error))
 }
 
@@ -65,10 +69,11 @@ fn wrong(what: impl Into<String>) -> Failure {
 fn form(output: &OsStr) -> Result<Form, Failure> {
     let ending = Path::new(output).extension().and_then(OsStr::to_str);
     match ending.map(str::to_ascii_lowercase).as_deref() {
+        Some("tif" | "tiff") => Ok(Form::Sheet),
         Some("pgm") => Ok(Form::Pgm),
         Some("raw") => Ok(Form::Raw),
         _ => Err(wrong(format!(
-            "{} ends neither in .pgm nor in .raw",
+            "{} ends in none of .tif, .tiff, .pgm and .raw",
             text::of_os(output)
         ))),
     }
@@ -128,11 +133,12 @@ fn different(path: &OsStr, output: &OsString) -> Done {
     }
 }
 
-fn write(output: &OsStr, form: Form, summary: &Summary, samples: &[u8]) -> io::Result<()> {
+/// Writes a sheet or samples.
+fn write(output: &OsStr, form: Form, summary: &Summary, bytes: &[u8]) -> io::Result<()> {
     let mut out = BufWriter::new(fs::File::create(output)?);
     match form {
-        Form::Raw => out.write_all(samples)?,
-        Form::Pgm => write_pgm(&mut out, summary, samples)?,
+        Form::Sheet | Form::Raw => out.write_all(bytes)?,
+        Form::Pgm => write_pgm(&mut out, summary, bytes)?,
     }
     out.flush()
 }

@@ -150,8 +150,82 @@ fn planes_of_8_and_32_bits() {
     folder.run(&["plane", "32.nd2", "-o", "32.raw"]).fine();
     assert_eq!(folder.read("32.raw"), rows);
     let refused = folder.run(&["plane", "32.nd2", "-o", "32.pgm"]);
-    refused.fails(1, &["32.nd2", "32 bits", ".raw"]);
+    refused.fails(1, &["32.nd2", "32 bits", ".tif", ".raw"]);
     assert!(!folder.has("32.pgm"));
+}
+
+#[test]
+fn a_plane_as_a_sheet_is_read_back() {
+    let folder = with_small();
+    let words = "plane a.nd2 --scene 2 --c 1 --z 1 -o".split(' ');
+    let file = small().file();
+    let expected = nd2::Reader::open(&file).unwrap().sheet(2, 0, 1, 1).unwrap();
+    for name in ["p.tif", "p.tiff", "p.TIF"] {
+        let words: Vec<&str> = words.clone().chain([name]).collect();
+        assert_eq!(folder.run(&words).fine(), "");
+        assert!(folder.read(name) == expected, "{name}");
+    }
+    let places = (0..4).flat_map(|y| (0..5).map(move |x| (x, y)));
+    let samples = places.map(|(x, y)| sample(2, 1, 1, x, y));
+    let (smallest, largest) = (samples.clone().min(), samples.max());
+    let (smallest, largest) = (smallest.unwrap(), largest.unwrap());
+    let told = folder.run(&["sheet", "p.tif"]).fine();
+    assert_eq!(
+        told,
+        format!(
+            "p.tif\n  bytes       226\n  plane       5 x 4 samples of 16 bits\n  smallest    {smallest}\n  largest     {largest}\n"
+        )
+    );
+    let json = parse(&folder.run(&["sheet", "--json", "p.tif"]).fine()).expect("valid JSON");
+    assert_eq!(json.get("file"), &Json::Text("p.tif".into()));
+    for (name, number) in [
+        ("bytes", 226),
+        ("width", 5),
+        ("height", 4),
+        ("bits", 16),
+        ("smallest", smallest),
+        ("largest", largest),
+    ] {
+        assert_eq!(json.get(name), &Json::Number(number.into()), "{name}");
+    }
+}
+
+#[test]
+fn sheets_of_8_and_32_bits() {
+    let folder = Folder::new();
+    folder.write("8.nd2", &one_frame(8, &[7, 250]));
+    folder.run(&["plane", "8.nd2", "-o", "8.tif"]).fine();
+    assert_eq!(folder.read("8.tif")[186..], [7, 250]);
+    let told = folder.run(&["sheet", "8.tif"]).fine();
+    assert!(
+        told.contains("smallest    7\n  largest     250\n"),
+        "{told}"
+    );
+    let floats = |name: &str, samples: [f32; 2]| {
+        let rows = samples.map(f32::to_le_bytes).concat();
+        folder.write("32.nd2", &one_frame(32, &rows));
+        folder.run(&["plane", "32.nd2", "-o", name]).fine();
+        assert_eq!(folder.read(name)[186..], rows);
+        let json = folder.run(&["sheet", "--json", name]).fine();
+        let json = parse(&json).expect("valid JSON");
+        let ends = ["smallest", "largest"].map(|end| json.get(end).clone());
+        (folder.run(&["sheet", name]).fine(), ends)
+    };
+    let (told, ends) = floats("a.tif", [0.5, -2.25]);
+    assert!(told.contains("2 x 1 samples of 32 bits"), "{told}");
+    assert!(
+        told.contains("smallest    -2.25\n  largest     0.5\n"),
+        "{told}"
+    );
+    assert_eq!(ends, [-2.25, 0.5].map(Json::Number));
+    let (told, ends) = floats("b.tif", [f32::NAN, f32::INFINITY]);
+    assert!(
+        told.contains("smallest    inf\n  largest     inf\n"),
+        "{told}"
+    );
+    assert_eq!(ends, [Json::Null, Json::Null]);
+    let (told, _) = floats("c.tif", [f32::NAN; 2]);
+    assert!(told.contains("largest     no number\n"), "{told}");
 }
 
 #[test]

@@ -18,7 +18,9 @@ fn help_is_no_failure() {
     for words in [&["--help"][..], &["-h"], &["help"]] {
         assert!(folder.run(words).fine().starts_with("usage: nd2 COMMAND"));
     }
-    for command in ["info", "plane", "register", "tree", "check", "sample"] {
+    for command in [
+        "info", "plane", "sheet", "register", "tree", "check", "sample",
+    ] {
         let told = folder.run(&[command, "--help"]).fine();
         assert!(
             told.starts_with(&format!("usage: nd2 {command} ")),
@@ -41,11 +43,13 @@ fn wrong_usage_gives_the_usage_and_status_2() {
         (&["check"], "FILE is missing"),
         (&["sample"], "OUT is missing"),
         (&["register"], "FILE is missing"),
+        (&["sheet"], "FILE is missing"),
+        (&["sheet", "--xml", "a.tif"], "no such option: --xml"),
         (&["plane", "a.nd2"], "-o is missing"),
         (&["plane", "a.nd2", "-o"], "-o needs a value"),
         (
             &["plane", "a.nd2", "-o", "p.png"],
-            "p.png ends neither in .pgm nor in .raw",
+            "p.png ends in none of .tif, .tiff, .pgm and .raw",
         ),
         (
             &["plane", "a.nd2", "-o", "p.pgm"],
@@ -105,6 +109,43 @@ fn refusals_say_what_is_wrong_where_and_the_number() {
     ];
     folder.run(&words).fails(1, &parts);
     assert!(!folder.has("p.pgm"));
+}
+
+#[test]
+fn what_is_no_sheet_is_told_with_what_is_wrong() {
+    let folder = with_roller();
+    let words = ["plane", "a.nd2", "--scene", "1", "--z", "0", "-o", "p.tif"];
+    folder.run(&words).fine();
+    let good = folder.read("p.tif");
+    folder.write("empty.tif", b"");
+    folder.write("cut.tif", &good[..good.len() - 3]);
+    folder.write("bits.tif", &[&good[..42], &[12], &good[43..]].concat());
+    let layout = "sheet layout: the sheet is not of this reader's layout (27); ";
+    for (name, what) in [
+        ("a.nd2", "it does not begin as a TIFF"),
+        ("empty.tif", "it does not begin as a TIFF"),
+        ("cut.tif", "it is 3 bytes shorter than its sizes say"),
+        (
+            "bits.tif",
+            "258 BitsPerSample is 12, in a sheet 8, 16 or 32",
+        ),
+    ] {
+        let complaint = format!("nd2: {name}: {layout}{what}\n");
+        for words in [&["sheet", name][..], &["sheet", "--json", name]] {
+            let ran = folder.run(words);
+            ran.fails(1, &[&complaint]);
+            assert_eq!(ran.out, "");
+        }
+    }
+    let gone = folder.run(&["sheet", "gone.tif"]);
+    gone.fails(1, &["nd2: gone.tif: No such file"]);
+    folder
+        .run(&["sheet", "."])
+        .fails(1, &["nd2: .: not a regular file"]);
+    let words = ["plane", "a.nd2", "--scene", "2", "--z", "0", "-o", "q.tif"];
+    let parts = ["plane at scene 2, t 0, c 0, z 0: index", "(21)"];
+    folder.run(&words).fails(1, &parts);
+    assert!(!folder.has("q.tif"));
 }
 
 #[test]
@@ -169,6 +210,11 @@ fn files_that_are_there_are_not_lost() {
         .run(&["plane", "a.raw", "-o", "a.raw"])
         .fails(1, &["is the file that is read"]);
     assert_eq!(folder.read("a.raw"), roller(1, 1, 1, 2, 2));
+    folder.write("a.tif", &roller(1, 1, 1, 2, 2));
+    folder
+        .run(&["plane", "a.tif", "-o", "a.tif"])
+        .fails(1, &["is the file that is read"]);
+    assert_eq!(folder.read("a.tif"), roller(1, 1, 1, 2, 2));
 }
 
 #[test]

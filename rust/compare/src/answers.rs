@@ -1,13 +1,15 @@
 //! What a reader answers about one file, with every lent byte.
 
 use crate::reader::Reader;
+use crate::sheets::Read;
 use plan::{Plan, MOST_FRAMES, TREES};
+use second::sheets::HEAD_BYTES;
 use second::trees::ENTRY_BYTES;
 use second::{Channel, Summary};
 use std::fmt;
 
 /// What lent bytes hold before a call.
-const FILL: u8 = 0xA5;
+pub const FILL: u8 = 0xA5;
 
 /// A call's number and what the lent bytes hold after it.
 #[derive(Clone, PartialEq)]
@@ -33,6 +35,7 @@ pub struct Row {
 #[derive(Clone, Debug, PartialEq)]
 pub struct Strange {
     pub plane: Lent,
+    pub sheet: Lent,
     pub tree: Lent,
     pub channels: Row,
     pub register: Lent,
@@ -53,7 +56,14 @@ pub struct Answers {
     pub small_open: Option<Result<Summary, u32>>,
     pub small_trees: Vec<Lent>,
     pub small_channels: Option<u32>,
-    pub wild: Vec<[u32; 4]>,
+    pub sheets: Vec<Lent>,
+    pub short_sheets: Vec<u32>,
+    /// What was written, read back.
+    pub reads: Vec<Read>,
+    pub short_reads: Vec<Read>,
+    /// What was written, damaged and then read.
+    pub damaged: Vec<Read>,
+    pub wild: Vec<[u32; 5]>,
     pub strange: Vec<Strange>,
     /// Lent bytes that were touched or not cleared against the rules.
     pub faults: Vec<String>,
@@ -104,9 +114,27 @@ impl Answers {
             ("strange summaries", self.strange == other.strange),
             ("lent bytes", self.faults == other.faults),
         ];
-        let differing = same.into_iter().filter(|(_, same)| !same);
+        let same = same.into_iter().chain(self.same_sheets(other));
+        let differing = same.filter(|(_, same)| !same);
         let told = |(call, _)| format!("{call}: other answers than the first reader's");
         differing.map(told).collect()
+    }
+
+    /// The calls with sheets, and whether other answers are these.
+    fn same_sheets(&self, other: &Answers) -> [(&'static str, bool); 5] {
+        [
+            ("sheets", self.sheets == other.sheets),
+            (
+                "sheets, short buffer",
+                self.short_sheets == other.short_sheets,
+            ),
+            ("sheets read", self.reads == other.reads),
+            (
+                "sheets read, short buffer",
+                self.short_reads == other.short_reads,
+            ),
+            ("damaged sheets read", self.damaged == other.damaged),
+        ]
     }
 }
 
@@ -127,6 +155,7 @@ pub fn asked(reader: &dyn Reader, file: &[u8], plan: &Plan, scratch: &mut Scratc
     };
     asking.open();
     asking.planes();
+    asking.sheets();
     asking.trees();
     asking.channels();
     asking.register();
@@ -144,12 +173,12 @@ fn used(bytes: &[u8]) -> usize {
     end - zeros.count()
 }
 
-struct Asking<'a> {
-    reader: &'a dyn Reader,
-    file: &'a [u8],
-    plan: &'a Plan,
+pub struct Asking<'a> {
+    pub reader: &'a dyn Reader,
+    pub file: &'a [u8],
+    pub plan: &'a Plan,
     scratch: &'a mut Scratch,
-    answers: Answers,
+    pub answers: Answers,
 }
 
 impl Asking<'_> {
@@ -163,7 +192,7 @@ impl Asking<'_> {
         self.table(self.plan.room * ENTRY_BYTES + self.plan.spare);
     }
 
-    fn fault(&mut self, right: bool, what: &str) {
+    pub fn fault(&mut self, right: bool, what: &str) {
         if !right {
             self.answers.faults.push(what.to_string());
         }
@@ -185,11 +214,16 @@ impl Asking<'_> {
         self.answers.small_open = Some(small);
     }
 
+    /// The bytes of a plane that may be there, or few.
+    pub fn plane_bytes(&self) -> usize {
+        let plane = self.plan.summary.attributes().plane_bytes();
+        let fits = plane.filter(|&bytes| bytes <= self.file.len() as u128);
+        fits.unwrap_or(16) as usize
+    }
+
     fn planes(&mut self) {
+        let needed = self.plane_bytes();
         for &at in &self.plan.planes {
-            let plane = self.plan.summary.attributes().plane_bytes();
-            let fits = plane.filter(|&bytes| bytes <= self.file.len() as u128);
-            let needed = fits.unwrap_or(16) as usize;
             let lent = self.plane(at, needed);
             self.answers.planes.push(lent);
             let mut short = vec![FILL; needed - 1];
@@ -229,7 +263,7 @@ impl Asking<'_> {
     }
 
     /// On a refusal no byte may have changed, otherwise none after those that were needed.
-    fn untouched(&mut self, number: u32, bytes: &[u8], needed: usize, call: &str) {
+    pub fn untouched(&mut self, number: u32, bytes: &[u8], needed: usize, call: &str) {
         let from = if number == 0 { needed } else { 0 };
         let same = bytes.get(from..).unwrap_or(&[]).iter().all(|&b| b == FILL);
         self.fault(same, &format!("{call}: bytes were touched"));
@@ -318,6 +352,10 @@ impl Asking<'_> {
                 number,
                 bytes: samples,
             };
+            let mut bytes = vec![FILL; HEAD_BYTES + 200];
+            let number = self.reader.sheet(self.file, summary, [0; 4], &mut bytes);
+            self.untouched(number, &bytes, bytes.len(), "sheet, strange summary");
+            let sheet = Lent { number, bytes };
             let mut records = vec![FILL; 24 * 30];
             let number = self.reader.register(self.file, summary, &mut records);
             self.untouched(number, &records, records.len(), "register, strange summary");
@@ -328,6 +366,7 @@ impl Asking<'_> {
             let (tree, channels) = self.strange_tables(summary);
             self.answers.strange.push(Strange {
                 plane,
+                sheet,
                 tree,
                 channels,
                 register,
@@ -357,12 +396,13 @@ impl Asking<'_> {
         (Lent { number, bytes }, channels)
     }
 
-    /// The four calls that take a summary, with summaries that are refused.
+    /// The five calls that take a summary, with summaries that are refused.
     fn wild(&mut self) {
         for summary in &self.plan.wild {
             let mut bytes = vec![FILL; 64];
             let plane = self.reader.plane(self.file, summary, [0; 4], &mut bytes);
             let register = self.reader.register(self.file, summary, &mut bytes);
+            let sheet = self.reader.sheet(self.file, summary, [0; 4], &mut bytes);
             self.untouched(1, &bytes, 0, "refused summary");
             self.small_table();
             let name = TREES[0].as_bytes();
@@ -375,7 +415,8 @@ impl Asking<'_> {
             let table = &mut self.scratch.table;
             let channels = self.reader.channels(self.file, summary, table, &mut row);
             self.table_is_zero("channels, refused summary");
-            self.answers.wild.push([plane, tree, channels, register]);
+            let numbers = [plane, tree, channels, register, sheet];
+            self.answers.wild.push(numbers);
         }
     }
 }

@@ -9,6 +9,7 @@ use plan::{Plan, MOST_FRAMES, TREES};
 use second::channels::all_single;
 use second::names::{scalars, units_at};
 use second::refusal::{BUFFER, CHANNEL_ROW, MAP, PACKED, SUMMARY, TABLE};
+use second::sheets::HEAD_BYTES;
 use second::trees::{written, ENTRY_BYTES};
 use second::values::{root, Level, Value};
 use second::{Channel, Summary};
@@ -39,12 +40,14 @@ const LIMIT_BYTES: usize = 17 * 2_000_001;
 /// The original passes over ten bytes after a packed record's first two; this is its message where there are fewer.
 const NO_TEN_BYTES: &str = "ND2 read out of bounds: need 10 bytes";
 
-/// What came out of one file: differences that are listed, those that are not, and what became of its channels.
+/// What came out of one file: differences that are listed, those that are not, what became of its channels and sheets.
 #[derive(Default)]
 pub struct Findings {
     pub listed: Vec<Listed>,
     pub unlisted: Vec<String>,
     pub channels: Channels,
+    /// How many sheets have the samples of the original's planes.
+    pub sheets: u64,
 }
 
 /// Whether a file's channels were held against the original's, in which every plane record stands for one component.
@@ -78,12 +81,13 @@ impl Check<'_> {
         }
         self.open();
         self.planes();
+        self.sheets();
         self.trees();
         self.channels();
         self.register();
         self.tables();
         for numbers in &self.answers.wild {
-            self.same("refused summary", numbers, &[SUMMARY; 4]);
+            self.same("refused summary", numbers, &[SUMMARY; 5]);
         }
     }
 
@@ -153,26 +157,44 @@ impl Check<'_> {
     }
 
     fn planes(&mut self) {
-        let (file, answers, original) = (self.file, self.answers, self.original);
+        let answers = self.answers;
         for (i, lent) in answers.planes.iter().enumerate() {
-            let what = format!("plane {:?}", self.plan.planes[i]);
-            let told = &original.planes[i];
-            if self.both(&what, lent.number, told) {
-                let samples = told.as_deref().unwrap_or(&[]);
-                let begins = lent.bytes.starts_with(samples);
-                let whole = lent.bytes.len() == samples.len() + self.plan.spare;
-                if !begins || !whole {
-                    self.differs(format!("{what}: other samples ({} bytes)", file.len()));
-                }
-            }
+            self.samples("plane", i, lent, 0);
             self.same("border", &answers.borders[i], lent);
-            let short = if lent.number == 0 {
-                BUFFER
-            } else {
-                lent.number
-            };
+            let short = short(lent.number);
             self.same("plane, short buffer", &answers.short_planes[i], &short);
         }
+    }
+
+    /// A sheet has the samples of the original's plane behind its head, and is refused as that is. Its head and what it
+    /// says when it is read were held against the reader's own plane (`sheets`).
+    fn sheets(&mut self) {
+        let answers = self.answers;
+        for (i, lent) in answers.sheets.iter().enumerate() {
+            if self.samples("sheet", i, lent, HEAD_BYTES) {
+                self.findings.sheets += 1;
+            }
+            let short = short(lent.number);
+            self.same("sheet, short buffer", &answers.short_sheets[i], &short);
+        }
+    }
+
+    /// Holds the samples behind a head against the original's plane `i`; whether both accept.
+    fn samples(&mut self, call: &str, i: usize, lent: &Lent, head: usize) -> bool {
+        let what = format!("{call} {:?}", self.plan.planes[i]);
+        let original = self.original;
+        let told = &original.planes[i];
+        if !self.both(&what, lent.number, told) {
+            return false;
+        }
+        let theirs = told.as_deref().unwrap_or(&[]);
+        let ours = lent.bytes.get(head..).unwrap_or(&[]);
+        let whole = ours.len() == theirs.len() + self.plan.spare;
+        if !ours.starts_with(theirs) || !whole {
+            let len = self.file.len();
+            self.differs(format!("{what}: other samples ({len} bytes)"));
+        }
+        true
     }
 
     fn map_read(&self) -> bool {
@@ -310,6 +332,15 @@ impl Check<'_> {
         } else if whole || small != Err(TABLE) {
             self.same("open, small table", &bits(small), &bits(full));
         }
+    }
+}
+
+/// What a call gives with a buffer that is one byte too short.
+fn short(number: u32) -> u32 {
+    if number == 0 {
+        BUFFER
+    } else {
+        number
     }
 }
 

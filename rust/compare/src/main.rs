@@ -14,6 +14,7 @@ mod original;
 mod proved;
 mod reader;
 mod run;
+mod sheets;
 mod table;
 mod tally;
 #[path = "../driver/wire.rs"]

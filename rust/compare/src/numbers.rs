@@ -50,8 +50,8 @@ pub fn number(message: &str) -> Option<u32> {
     found.map(|(_, number)| *number)
 }
 
-/// Document 01's trade words, number 1 first.
-pub const WORDS: [&str; 25] = [
+/// The trade words, number 1 first.
+pub const WORDS: [&str; 27] = [
     "foreign",
     "legacy",
     "tail",
@@ -77,4 +77,6 @@ pub const WORDS: [&str; 25] = [
     "no frame",
     "frame short",
     "buffer",
+    "sheet long",
+    "sheet layout",
 ];

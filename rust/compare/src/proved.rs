@@ -2,7 +2,7 @@
 
 use crate::reader::Reader;
 use nd2::raw::{self, CHANNEL_BYTES, SUMMARY_BYTES};
-use second::{Axis, Channel, Loop, Range, Summary};
+use second::{Axis, Channel, Loop, Range, Sheet, Summary};
 
 pub struct Proved;
 
@@ -130,5 +130,24 @@ impl Reader for Proved {
 
     fn read_plane(&self, file: &[u8], table: &mut [u8], at: [u64; 4], samples: &mut [u8]) -> u32 {
         raw::read_plane(file, table, at, samples)
+    }
+
+    fn sheet(&self, file: &[u8], summary: &Summary, at: [u64; 4], sheet: &mut [u8]) -> u32 {
+        raw::sheet(file, &laid(summary), at, sheet)
+    }
+
+    fn read_sheet(&self, sheet: &[u8], samples: &mut [u8]) -> Result<Sheet, u32> {
+        let mut sizes = [u64::MAX; 3];
+        let number = raw::read_sheet(sheet, samples, &mut sizes);
+        let [width, height, bits] = sizes;
+        if number != 0 {
+            assert_eq!(sizes, [0; 3], "the sizes of a refused sheet are zero");
+            return Err(number);
+        }
+        Ok(Sheet {
+            width,
+            height,
+            bits,
+        })
     }
 }

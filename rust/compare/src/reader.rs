@@ -1,9 +1,9 @@
 //! The seam: what a reader has to answer to be compared. A reader that is linked in from elsewhere gets an `impl` here.
 
 use crate::proved::Proved;
-use second::{Channel, Summary};
+use second::{Channel, Sheet, Summary};
 
-/// The calls of document 01, over lent bytes.
+/// The calls of document 01 and of the change requests, over lent bytes.
 pub trait Reader {
     /// What the report calls this reader.
     fn name(&self) -> &'static str;
@@ -27,6 +27,12 @@ pub trait Reader {
 
     /// The border call.
     fn read_plane(&self, file: &[u8], table: &mut [u8], at: [u64; 4], samples: &mut [u8]) -> u32;
+
+    /// The plane as a sheet.
+    fn sheet(&self, file: &[u8], summary: &Summary, at: [u64; 4], sheet: &mut [u8]) -> u32;
+
+    /// What a sheet says.
+    fn read_sheet(&self, sheet: &[u8], samples: &mut [u8]) -> Result<Sheet, u32>;
 }
 
 /// The second implementation.
@@ -67,6 +73,15 @@ impl Reader for Second {
     fn read_plane(&self, file: &[u8], table: &mut [u8], at: [u64; 4], samples: &mut [u8]) -> u32 {
         let [scene, t, c, z] = at;
         second::read_plane(file, table, scene, t, c, z, samples)
+    }
+
+    fn sheet(&self, file: &[u8], summary: &Summary, at: [u64; 4], sheet: &mut [u8]) -> u32 {
+        let [scene, t, c, z] = at;
+        second::sheet(file, summary, scene, t, c, z, sheet)
+    }
+
+    fn read_sheet(&self, sheet: &[u8], samples: &mut [u8]) -> Result<Sheet, u32> {
+        second::read_sheet(sheet, samples)
     }
 }
 

@@ -112,6 +112,7 @@ impl Run {
                     self.tally.count(&answers);
                     self.tally.listed(&mut findings.listed);
                     self.tally.channels(findings.channels);
+                    self.tally.sheets += findings.sheets;
                     first = Some(answers);
                 }
             }

@@ -54,7 +54,7 @@ fn value_right(file: &[u8], entry: &Entry) -> bool {
 /// A text has whole units, none of which is zero.
 fn text_right(file: &[u8], entry: &Entry) -> bool {
     let units = (0..entry.size as usize / 2).map(|i| u16_at(file, entry.value as usize + 2 * i));
-    entry.size.is_multiple_of(2) && units.into_iter().all(|unit| unit.is_some_and(|u| u != 0))
+    entry.size % 2 == 0 && units.into_iter().all(|unit| unit.is_some_and(|u| u != 0))
 }
 
 /// A record lies in its parent, after the parent's header and after the entry before it.

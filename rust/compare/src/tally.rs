@@ -5,20 +5,28 @@ use crate::check::{Channels, Listed};
 use crate::numbers::WORDS;
 use std::collections::BTreeMap;
 
-const CALLS: [&str; 6] = ["open", "plane", "border", "tree", "channels", "register"];
+const CALLS: [&str; 8] = [
+    "open", "plane", "border", "tree", "channels", "register", "sheet", "read",
+];
+/// 0, and every refusal.
+const NUMBERS: usize = WORDS.len() + 1;
 
 #[derive(Default)]
 pub struct Tally {
     pub files: u64,
     pub planes: u64,
     pub trees: u64,
+    /// Sheets with the samples of the original's planes.
+    pub sheets: u64,
+    damaged_sheets: u64,
+    taken_sheets: u64,
     pub unlisted: u64,
     pub unasked: u64,
     empty_channels: u64,
     told_channels: u64,
     left_out_channels: u64,
     listed: BTreeMap<Listed, u64>,
-    hits: [[u64; 6]; 26],
+    hits: [[u64; 8]; NUMBERS],
 }
 
 impl Tally {
@@ -27,10 +35,13 @@ impl Tally {
         self.files += 1;
         self.planes += answers.planes.iter().filter(|p| p.number == 0).count() as u64;
         self.trees += answers.trees.iter().filter(|t| t.number == 0).count() as u64;
+        let taken = answers.damaged.iter().filter(|read| read.number == 0);
+        self.damaged_sheets += answers.damaged.len() as u64;
+        self.taken_sheets += taken.count() as u64;
         for (call, numbers) in numbers(answers).into_iter().enumerate() {
-            let mut seen = [false; 26];
+            let mut seen = [false; NUMBERS];
             for number in numbers {
-                seen[(number as usize).min(25)] = true;
+                seen[(number as usize).min(NUMBERS - 1)] = true;
             }
             for (number, _) in seen.iter().enumerate().filter(|(_, s)| **s) {
                 self.hits[number][call] += 1;
@@ -60,7 +71,7 @@ impl Tally {
     /// The numbers that no file gave.
     pub fn missing(&self) -> Vec<usize> {
         let given = |number: &usize| self.hits[*number].iter().any(|&n| n > 0);
-        (1..26).filter(|number| !given(number)).collect()
+        (1..NUMBERS).filter(|number| !given(number)).collect()
     }
 
     pub fn print(&self) {
@@ -81,9 +92,13 @@ impl Tally {
             self.unasked
         );
         self.print_channels();
+        println!(
+            "sheets with the samples of the original's planes, read back: {}; damaged and read: {}, {} of them taken",
+            self.sheets, self.damaged_sheets, self.taken_sheets
+        );
         let missing = self.missing();
         if !missing.is_empty() {
-            println!("numbers that no file gave: {missing:?}");
+            println!("numbers that no file gave (26 needs one of 4 GB): {missing:?}");
         }
         println!(
             "{} files, {} planes, {} trees, {} unlisted differences",
@@ -105,7 +120,7 @@ impl Tally {
 }
 
 /// The numbers of each call, in the order of `CALLS`.
-fn numbers(a: &Answers) -> [Vec<u32>; 6] {
+fn numbers(a: &Answers) -> [Vec<u32>; 8] {
     let open = [a.open, a.small_open].into_iter().flatten();
     let planes = a.planes.iter().map(|l| l.number);
     let trees = a.trees.iter().chain(&a.small_trees).map(|l| l.number);
@@ -142,5 +157,20 @@ fn numbers(a: &Answers) -> [Vec<u32>; 6] {
             .chain(wild(3))
             .chain(strange(|s| s.register.number))
             .collect(),
+        sheets(a),
+        reads(a),
     ]
+}
+
+fn sheets(a: &Answers) -> Vec<u32> {
+    let written = a.sheets.iter().map(|l| l.number);
+    let wild = a.wild.iter().map(|numbers| numbers[4]);
+    let strange = a.strange.iter().map(|s| s.sheet.number);
+    let short = a.short_sheets.iter().copied();
+    written.chain(short).chain(wild).chain(strange).collect()
+}
+
+fn reads(a: &Answers) -> Vec<u32> {
+    let reads = a.reads.iter().chain(&a.short_reads).chain(&a.damaged);
+    reads.map(|read| read.number).collect()
 }

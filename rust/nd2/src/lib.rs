@@ -23,7 +23,8 @@
 //! # }
 //! ```
 //!
-//! The file need not be on a disk: [`Reader::open`] takes any bytes.
+//! The file need not be on a disk: [`Reader::open`] takes any bytes. [`Reader::sheet`] gives a plane as a TIFF sheet, and
+//! [`Sheet::read`] reads one.
 
 #![warn(missing_docs)]
 
@@ -34,6 +35,7 @@ pub mod raw;
 mod reader;
 mod refusal;
 mod register;
+mod sheet;
 mod summary;
 mod text;
 mod tree;
@@ -43,5 +45,6 @@ pub use file::File;
 pub use reader::Reader;
 pub use refusal::Refusal;
 pub use register::Frame;
+pub use sheet::Sheet;
 pub use summary::{Axis, Loop, State, Summary, ZStep};
 pub use tree::{Entry, Tree, Value};

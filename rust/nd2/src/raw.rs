@@ -1,11 +1,11 @@
 //! The C interface as it is (`include/nd2.h`): every call over lent slices, answered by a number.
 //!
-//! 0 is an accepted call, any other number a [`Refusal`](crate::Refusal). On a refusal samples and register keep every
-//! byte, and table, summary and channel records are all zero. [`Reader`](crate::Reader) is made of these calls; they are
-//! for callers that lend their own buffers, and for tests.
+//! 0 is an accepted call, any other number a [`Refusal`](crate::Refusal). On a refusal samples, register and sheet keep
+//! every byte, and table, summary, channel records and the sizes of a sheet are all zero. [`Reader`](crate::Reader) and
+//! [`Sheet`](crate::Sheet) are made of these calls; they are for callers that lend their own buffers, and for tests.
 //!
-//! Every `unsafe` block here passes a slice as its pointer and its length. A slice of Rust is never null, lives through the
-//! call, and one that is written overlaps no other: all that the header asks for.
+//! Every `unsafe` block here passes a slice as its pointer and its length, or a number that is lent. A slice of Rust is
+//! never null, lives through the call, and one that is written overlaps no other: all that the header asks for.
 
 /// Bytes of a summary.
 pub const SUMMARY_BYTES: usize = 144;
@@ -15,6 +15,8 @@ pub const CHANNEL_BYTES: usize = 56;
 pub const ENTRY_BYTES: usize = 48;
 /// Bytes of a frame's record in the register.
 pub const FRAME_BYTES: usize = 24;
+/// Bytes of a sheet before its samples.
+pub const SHEET_HEAD_BYTES: usize = 186;
 
 mod calls {
     extern "C" {
@@ -37,6 +39,27 @@ mod calls {
             z: u64,
             samples: *mut u8,
             samples_len: usize,
+        ) -> u32;
+        pub fn nd2_sheet(
+            file: *const u8,
+            file_len: usize,
+            summary: *const u8,
+            summary_len: usize,
+            scene: u64,
+            t: u64,
+            c: u64,
+            z: u64,
+            sheet: *mut u8,
+            sheet_len: usize,
+        ) -> u32;
+        pub fn nd2_sheet_read(
+            sheet: *const u8,
+            sheet_len: usize,
+            samples: *mut u8,
+            samples_len: usize,
+            width: *mut u64,
+            height: *mut u64,
+            bits: *mut u64,
         ) -> u32;
         pub fn nd2_tree(
             file: *const u8,
@@ -110,6 +133,42 @@ pub fn plane(file: &[u8], summary: &[u8], at: [u64; 4], samples: &mut [u8]) -> u
             z,
             samples.as_mut_ptr(),
             samples.len(),
+        )
+    }
+}
+
+/// Writes the plane at scene, t, c and z as a TIFF sheet: [`SHEET_HEAD_BYTES`] and the samples; later bytes keep what they
+/// are.
+pub fn sheet(file: &[u8], summary: &[u8], at: [u64; 4], sheet: &mut [u8]) -> u32 {
+    let [scene, t, c, z] = at;
+    unsafe {
+        calls::nd2_sheet(
+            file.as_ptr(),
+            file.len(),
+            summary.as_ptr(),
+            summary.len(),
+            scene,
+            t,
+            c,
+            z,
+            sheet.as_mut_ptr(),
+            sheet.len(),
+        )
+    }
+}
+
+/// Reads a sheet: writes its samples, later bytes keep what they are, and tells width, height and bits.
+pub fn read_sheet(sheet: &[u8], samples: &mut [u8], sizes: &mut [u64; 3]) -> u32 {
+    let [width, height, bits] = sizes;
+    unsafe {
+        calls::nd2_sheet_read(
+            sheet.as_ptr(),
+            sheet.len(),
+            samples.as_mut_ptr(),
+            samples.len(),
+            width,
+            height,
+            bits,
         )
     }
 }

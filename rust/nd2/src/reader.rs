@@ -1,7 +1,7 @@
 //! The calls, over the bytes of one file.
 
 use crate::channel::Channel;
-use crate::raw::{self, CHANNEL_BYTES, ENTRY_BYTES, FRAME_BYTES, SUMMARY_BYTES};
+use crate::raw::{self, CHANNEL_BYTES, ENTRY_BYTES, FRAME_BYTES, SHEET_HEAD_BYTES, SUMMARY_BYTES};
 use crate::refusal::Refusal;
 use crate::register::Frame;
 use crate::summary::Summary;
@@ -106,6 +106,53 @@ impl<'a> Reader<'a> {
         Refusal::of_call(raw::plane(self.file, &self.laid, [scene, t, c, z], samples))
     }
 
+    /// The plane as a TIFF sheet, for programs that read TIFF 6.0: one uncompressed strip of grey samples, as
+    /// [`plane`](Reader::plane) gives them, behind a head of [`raw::SHEET_HEAD_BYTES`]. Samples of 32 bits are floats
+    /// there. [`Sheet::read`](crate::Sheet::read) reads it.
+    ///
+    /// # Errors
+    ///
+    /// As [`plane`](Reader::plane), and 26 where the sheet would have more than 4,294,967,295 bytes.
+    ///
+    /// ```
+    /// let bytes = sample::roller(24, 11, 2, 4, 4);
+    /// let reader = nd2::Reader::open(&bytes)?;
+    /// let sheet = reader.sheet(23, 0, 1, 10)?;
+    /// assert!(sheet.starts_with(b"II*\0"));
+    /// assert_eq!(sheet[nd2::raw::SHEET_HEAD_BYTES..], reader.plane(23, 0, 1, 10)?);
+    /// # Ok::<(), nd2::Refusal>(())
+    /// ```
+    pub fn sheet(&self, scene: u64, t: u64, c: u64, z: u64) -> Result<Vec<u8>, Refusal> {
+        let mut sheet = vec![0; self.sheet_room()];
+        self.sheet_into(scene, t, c, z, &mut sheet)?;
+        Ok(sheet)
+    }
+
+    /// The bytes that a sheet needs, or 0 where it is refused before its buffer is looked at.
+    fn sheet_room(&self) -> usize {
+        match (self.plane_room(), u32::try_from(self.summary.sheet_bytes())) {
+            (0, _) | (_, Err(_)) => 0,
+            (room, Ok(_)) => SHEET_HEAD_BYTES + room,
+        }
+    }
+
+    /// The same into a buffer of at least [`Summary::sheet_bytes`] bytes; later bytes keep what they are, and on a
+    /// refusal all of them do.
+    ///
+    /// # Errors
+    ///
+    /// As [`sheet`](Reader::sheet), and 25 where the buffer is too short.
+    pub fn sheet_into(
+        &self,
+        scene: u64,
+        t: u64,
+        c: u64,
+        z: u64,
+        sheet: &mut [u8],
+    ) -> Result<(), Refusal> {
+        Refusal::of_call(raw::sheet(self.file, &self.laid, [scene, t, c, z], sheet))
+    }
+
     /// The channels, one for each component. A plane record of the file may cover several components, as a colour
     /// camera's does: these have the same name and colour. One that the file does not describe has neither.
     ///
@@ -196,7 +243,7 @@ fn records(count: u64, bytes: usize) -> Option<usize> {
 }
 
 /// So many bytes of zero, if there is memory for them.
-fn zeroed(len: usize) -> Option<Vec<u8>> {
+pub(crate) fn zeroed(len: usize) -> Option<Vec<u8>> {
     let mut bytes = Vec::new();
     bytes.try_reserve_exact(len).ok()?;
     bytes.resize(len, 0);

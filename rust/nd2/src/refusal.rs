@@ -57,6 +57,8 @@ refusals! {
     23 NO_FRAME "no frame" "the map has no entry for the frame"
     24 FRAME_SHORT "frame short" "the frame's data is too short"
     25 BUFFER "buffer" "the buffer is too short for the answer"
+    26 SHEET_LONG "sheet long" "a sheet would have more than 4,294,967,295 bytes"
+    27 SHEET_LAYOUT "sheet layout" "the sheet is not of this reader's layout"
 }
 
 impl Refusal {
@@ -119,7 +121,7 @@ mod tests {
     #[test]
     fn numbers_rise_from_one_without_gaps() {
         let numbers: Vec<u32> = Refusal::ALL.iter().map(|r| r.number()).collect();
-        assert_eq!(numbers, (1..=25).collect::<Vec<u32>>());
+        assert_eq!(numbers, (1..=27).collect::<Vec<u32>>());
     }
 
     #[test]
@@ -127,6 +129,8 @@ mod tests {
         assert_eq!(Refusal::FOREIGN.word(), "foreign");
         assert_eq!(Refusal::TABLE.word(), "table");
         assert_eq!(Refusal::BUFFER.word(), "buffer");
+        assert_eq!(Refusal::SHEET_LONG.word(), "sheet long");
+        assert_eq!(Refusal::SHEET_LAYOUT.word(), "sheet layout");
     }
 
     #[test]

@@ -1,7 +1,7 @@
 //! What opening a file tells of it.
 
 use crate::bytes::{f32_at, u64_at};
-use crate::raw::SUMMARY_BYTES;
+use crate::raw::{SHEET_HEAD_BYTES, SUMMARY_BYTES};
 
 /// What a loop runs over.
 #[derive(Clone, Copy, Debug, PartialEq, Eq, Hash)]
@@ -161,6 +161,11 @@ impl Summary {
         let samples = self.width.saturating_mul(self.height);
         samples.saturating_mul(self.bits / 8)
     }
+
+    /// The bytes of a plane's sheet.
+    pub fn sheet_bytes(&self) -> u64 {
+        self.plane_bytes().saturating_add(SHEET_HEAD_BYTES as u64)
+    }
 }
 
 #[cfg(test)]
@@ -200,6 +205,7 @@ mod tests {
         ]));
         assert_eq!(summary.loops.len(), 3);
         assert_eq!((summary.frames(), summary.plane_bytes()), (0, most));
+        assert_eq!(summary.sheet_bytes(), most);
     }
 
     #[test]

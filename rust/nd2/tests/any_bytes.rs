@@ -1,7 +1,8 @@
 //! Whatever the bytes are, there is an answer and no panic.
 
-use nd2::{Reader, Refusal};
-use sample::{random, roller};
+use nd2::raw::SHEET_HEAD_BYTES;
+use nd2::{Reader, Refusal, Sheet};
+use sample::{random, roller, Rng};
 
 /// Asks everything of a file; gives its refusal, if it does not open.
 fn asked(bytes: &[u8]) -> Option<Refusal> {
@@ -18,6 +19,7 @@ fn asked(bytes: &[u8]) -> Option<Refusal> {
         if let Ok(samples) = reader.plane(scene, t, c, z) {
             assert_eq!(samples.len() as u64, summary.plane_bytes());
         }
+        sheet(&reader, [scene, t, c, z]);
     }
     if summary.frames() < 10_000 {
         let frames = reader.register().unwrap();
@@ -31,6 +33,23 @@ fn asked(bytes: &[u8]) -> Option<Refusal> {
         }
     }
     None
+}
+
+/// A sheet is there where its plane is, and reading gives that back.
+fn sheet(reader: &Reader, [scene, t, c, z]: [u64; 4]) {
+    let plane = reader.plane(scene, t, c, z);
+    let written = reader.sheet(scene, t, c, z);
+    let samples = written.as_ref().map(|s| s[SHEET_HEAD_BYTES..].to_vec());
+    assert_eq!(samples.map_err(|refusal| *refusal), plane);
+    if let Ok(written) = written {
+        let summary = reader.summary();
+        let sheet = Sheet::read(&written).unwrap();
+        assert_eq!(
+            (sheet.width, sheet.height, sheet.bits),
+            (summary.width, summary.height, summary.bits)
+        );
+        assert_eq!(Ok(sheet.samples), plane);
+    }
 }
 
 #[test]
@@ -83,4 +102,27 @@ fn planes_larger_than_the_file() {
     let bytes = file.finish();
     let reader = Reader::open(&bytes).unwrap();
     assert_eq!(reader.plane(0, 0, 0, 0), Err(Refusal::FRAME_SHORT));
+    assert_eq!(reader.sheet(0, 0, 0, 0), Err(Refusal::FRAME_SHORT));
+}
+
+/// Files, any bytes, and sheets that were changed somewhere, read as sheets: what is taken is a sheet.
+#[test]
+fn any_bytes_as_a_sheet() {
+    let rng = &mut Rng::new(1);
+    let bytes = roller(1, 1, 1, 3, 2);
+    let good = Reader::open(&bytes).unwrap().sheet(0, 0, 0, 0).unwrap();
+    for seed in 0..300 {
+        assert_eq!(Sheet::read(&random::file(seed)), Err(Refusal::SHEET_LAYOUT));
+        let len = rng.place(400);
+        let mut any = rng.bytes(len);
+        assert_eq!(Sheet::read(&any), Err(Refusal::SHEET_LAYOUT));
+        let begun = len.min(good.len());
+        any[..begun].copy_from_slice(&good[..begun]);
+        let refused = Err(Refusal::SHEET_LAYOUT);
+        match len == good.len() {
+            true => assert!(Sheet::read(&any).is_ok()),
+            false => assert_eq!(Sheet::read(&any), refused),
+        }
+    }
+    assert_eq!(Sheet::read(&[]), Err(Refusal::SHEET_LAYOUT));
 }

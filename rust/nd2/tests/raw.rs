@@ -1,6 +1,6 @@
 //! The C interface as it is: numbers, and what lent bytes hold afterwards.
 
-use nd2::raw::{self, CHANNEL_BYTES, ENTRY_BYTES, FRAME_BYTES, SUMMARY_BYTES};
+use nd2::raw::{self, CHANNEL_BYTES, ENTRY_BYTES, FRAME_BYTES, SHEET_HEAD_BYTES, SUMMARY_BYTES};
 use sample::roller;
 
 const LENT: u8 = 0xEE;
@@ -58,6 +58,7 @@ fn a_summary_that_is_not_of_its_layout_is_refused_by_every_call() {
     for summary in [&good[1..], &axis, &tail, &[]] {
         let mut samples = vec![LENT; 32];
         assert_eq!(raw::plane(&file, summary, [0; 4], &mut samples), 20);
+        assert_eq!(raw::sheet(&file, summary, [0; 4], &mut samples), 20);
         assert!(is_lent(&samples));
         let mut buffer = vec![LENT; 6 * FRAME_BYTES];
         assert_eq!(raw::register(&file, summary, &mut buffer), 20);
@@ -106,6 +107,44 @@ fn later_bytes_are_left_alone_or_cleared() {
         raw::channels(&file, &summary, &mut table, &mut row[..CHANNEL_BYTES]),
         19
     );
+}
+
+#[test]
+fn a_sheet_is_its_head_and_the_samples() {
+    let file = roller(2, 3, 2, 4, 4);
+    let summary = opened(&file);
+    let at = [1, 0, 1, 2];
+    let mut samples = vec![LENT; 32];
+    assert_eq!(raw::plane(&file, &summary, at, &mut samples), 0);
+    let bytes = SHEET_HEAD_BYTES + 32;
+    let mut sheet = vec![LENT; bytes + 5];
+    let number = raw::sheet(&file, &summary, at, &mut sheet[..bytes - 1]);
+    assert!(number == 25 && is_lent(&sheet));
+    assert_eq!(raw::sheet(&file, &summary, at, &mut sheet), 0);
+    assert_eq!(sheet[SHEET_HEAD_BYTES..bytes], samples);
+    assert!(is_lent(&sheet[bytes..]));
+    sheet.truncate(bytes);
+    read_back(&sheet, &samples);
+}
+
+/// Reads a sheet of 4 x 4 samples of 16 bits with samples that are long, short, and for what is no sheet.
+fn read_back(sheet: &[u8], samples: &[u8]) {
+    let mut lent = vec![LENT; samples.len() + 5];
+    let mut sizes = [u64::MAX; 3];
+    assert_eq!(raw::read_sheet(sheet, &mut lent, &mut sizes), 0);
+    assert_eq!((&lent[..samples.len()], sizes), (samples, [4, 4, 16]));
+    assert!(is_lent(&lent[samples.len()..]));
+    for (sheet, room, number) in [
+        (sheet, samples.len() - 1, 25),
+        (sheet, 0, 25),
+        (&sheet[1..], samples.len(), 27),
+        (&sheet[..sheet.len() - 1], 0, 27),
+        (&[], samples.len(), 27),
+    ] {
+        let (mut lent, mut sizes) = (vec![LENT; room], [u64::MAX; 3]);
+        assert_eq!(raw::read_sheet(sheet, &mut lent, &mut sizes), number);
+        assert!(is_lent(&lent) && sizes == [0; 3]);
+    }
 }
 
 #[test]

@@ -5,11 +5,16 @@ use sample::random::SPARE;
 use sample::Rng;
 use second::chunks::{self, part};
 use second::map::{self, Map};
+use second::sheets::HEAD_BYTES;
 use second::trees::ENTRY_BYTES;
 use second::{Axis, Loop, Range, Summary};
 
 /// A register is asked up to this many frames.
 pub const MOST_FRAMES: u64 = 2000;
+
+/// The fields of a sheet: where the first one begins, and how many there are, each of twelve bytes.
+const FIRST_FIELD: usize = 10;
+const FIELDS: u64 = 13;
 
 /// The names of the trees that every file is asked for; the last one no file has.
 pub const TREES: [&str; 6] = [
@@ -36,6 +41,8 @@ pub struct Plan {
     pub wild: Vec<Summary>,
     /// Summaries that no opening of this file gave; some are refused.
     pub strange: Vec<Summary>,
+    /// What the damage of sheets is drawn from.
+    pub sheets: Rng,
 }
 
 /// A summary that can be used, for a file that does not open.
@@ -66,6 +73,7 @@ impl Plan {
             room: rng.place(30),
             wild: Vec::new(),
             strange: vec![strange(rng, file, summary)],
+            sheets: rng.aside(),
         };
         if plan.opened {
             plan.planes = planes(rng, &summary);
@@ -187,4 +195,39 @@ fn strange(rng: &mut Rng, file: &[u8], mut s: Summary) -> Summary {
         }
     }
     s
+}
+
+/// A sheet with something wrong in it, mostly before its samples; or another one, where only a sample is changed or
+/// width and height are swapped.
+pub fn damaged(rng: &mut Rng, sheet: &[u8]) -> Vec<u8> {
+    let mut bytes = sheet.to_vec();
+    match rng.below(10) {
+        0 => bytes.truncate(rng.place(sheet.len())),
+        1 => {
+            let more = rng.between(1, 4) as usize;
+            bytes.extend(rng.bytes(more));
+        }
+        2 => bytes[rng.place(sheet.len())] = rng.word() as u8,
+        3 => turned(&mut bytes),
+        4 | 5 => {
+            let at = value_at(rng.below(FIELDS) as usize);
+            let value = rng.pick(&[0, 1, 2, 3, 4, 8, 16, 32, 187, u32::MAX]);
+            bytes[at..at + 4].copy_from_slice(&value.to_le_bytes());
+        }
+        _ => bytes[rng.place(HEAD_BYTES)] ^= 1 << rng.below(8),
+    }
+    bytes
+}
+
+/// Where the value of a field stands.
+fn value_at(field: usize) -> usize {
+    FIRST_FIELD + 12 * field + 8
+}
+
+/// Width and height of a sheet swapped, and the rows of its strip with them.
+fn turned(sheet: &mut [u8]) {
+    let value = |field: usize| sheet[value_at(field)..value_at(field) + 4].to_vec();
+    for (field, value) in [(0, value(1)), (1, value(0)), (7, value(0))] {
+        sheet[value_at(field)..value_at(field) + 4].copy_from_slice(&value);
+    }
 }

@@ -1,6 +1,7 @@
 //! What the second implementation answers: a line for each question, of the call's name, its number and a checksum of
-//! every lent byte afterwards, an opening's with the numbers of its summary before them. A row of channels is bytes, as
-//! in the C interface: as many records of seven u64 as fit, zeros behind them.
+//! every lent byte afterwards, an opening's with the numbers of its summary before them, and a sheet's, where one is read,
+//! with its width, height and bits as u64. A row of channels is bytes, as in the C interface: as many records of seven
+//! u64 as fit, zeros behind them.
 
 use crate::step::{numbers, Step};
 use second::{Channel, Summary};
@@ -82,6 +83,8 @@ impl State {
             Step::Register { buffer } => return Some(self.register(*buffer)),
             Step::Border { at, table, buffer } => return Some(self.border(*at, *table, *buffer)),
             Step::Channels { table, buffer } => return Some(self.channels(*table, *buffer)),
+            Step::Sheet { at, buffer } => return Some(self.sheet(*at, *buffer)),
+            Step::ReadSheet { sheet, buffer } => return Some(read_sheet(sheet, *buffer)),
         }
         None
     }
@@ -105,6 +108,13 @@ impl State {
         let [scene, t, c, z] = at;
         let number = second::plane(&self.file, &self.summary, scene, t, c, z, &mut samples);
         Answer::new("plane", number, &[&samples])
+    }
+
+    fn sheet(&self, at: [u64; 4], buffer: usize) -> Answer {
+        let mut sheet = lent(buffer);
+        let [scene, t, c, z] = at;
+        let number = second::sheet(&self.file, &self.summary, scene, t, c, z, &mut sheet);
+        Answer::new("sheet", number, &[&sheet])
     }
 
     fn tree(&self, name: &[u8], table: usize) -> Answer {
@@ -139,4 +149,14 @@ impl State {
         bytes.resize(buffer, 0);
         Answer::new("channels", number, &[&bytes, &table])
     }
+}
+
+/// What a sheet says, all zero on a refusal, and its samples.
+fn read_sheet(sheet: &[u8], buffer: usize) -> Answer {
+    let mut samples = lent(buffer);
+    let read = second::read_sheet(sheet, &mut samples);
+    let told = read.unwrap_or_default();
+    let sizes = [told.width, told.height, told.bits].map(u64::to_le_bytes);
+    let number = read.err().unwrap_or(0);
+    Answer::new("read", number, &[&sizes.concat(), &samples])
 }

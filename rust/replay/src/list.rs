@@ -2,10 +2,11 @@
 
 use crate::answer::State;
 use crate::questions::{about, all, channels_of};
-use crate::rules;
 use crate::step::Step;
+use crate::{rules, sheets};
 use sample::parts::{self, Sizes};
 use sample::{Nd2, Roller};
+use second::sheets::HEAD_BYTES;
 use second::{Axis, Loop, Summary};
 use std::collections::{BTreeMap, BTreeSet};
 
@@ -27,6 +28,7 @@ pub fn steps() -> Vec<Step> {
     steps.extend(rollers());
     steps.extend(covered());
     steps.extend(random_files());
+    steps.extend(sheets::all());
     steps
 }
 
@@ -54,7 +56,9 @@ fn random_files() -> Vec<Step> {
         };
         let before = alike.entry(refused).or_insert(0);
         let few = refused.is_none() || *before < MOST_ALIKE;
-        let given = given(&steps);
+        let mut given = given(&steps);
+        // no file is taken for its sheets: these are refused as its planes are
+        given.retain(|(call, _)| *call != "sheet");
         if files < FILES && len <= MOST_COMMON && few || !given.is_subset(&seen) {
             *before += 1;
             seen.extend(given);
@@ -69,7 +73,7 @@ fn roller(points: u32, steps: u32, lamps: u32) -> Roller {
     Roller::new(points, steps, lamps, 3, 2)
 }
 
-/// Every plane of small rollers, and of one whose focus loop is the outer one.
+/// Every plane of small rollers, also as a sheet, and of one whose focus loop is the outer one.
 fn rollers() -> Vec<Step> {
     let inside = roller(3, 2, 2);
     let outside = Roller {
@@ -90,6 +94,8 @@ fn every_plane(label: &str, roller: Roller) -> Vec<Step> {
             for lamp in 0..roller.lamps as u64 {
                 let at = [point, 0, lamp, step];
                 steps.push(Step::Plane { at, buffer });
+                let buffer = HEAD_BYTES + buffer;
+                steps.push(Step::Sheet { at, buffer });
             }
         }
     }
@@ -155,6 +161,7 @@ fn ceiling() -> Vec<Step> {
             Step::Label(label.to_string()),
             Step::Summary(of_width(width)),
             Step::Plane { at, buffer: 16 },
+            Step::Sheet { at, buffer: 16 },
         ]
     };
     let mut steps = about("a file of one sample", file);

@@ -5,18 +5,19 @@
 //!     cargo run --offline --release -p replay -- --check  says whether these are what would be written
 //!
 //! The list is made from seeds alone, so it is the same in every run: document 01's edges, files of single rules, small
-//! rollers with all their planes, files whose plane records cover several components, and random files, good and damaged
-//! (`list` and `rules` say which, `questions` what is asked about them, `step` how it is stored). A change of `sample` or
-//! of `plan` changes it: write it anew.
+//! rollers with all their planes, files whose plane records cover several components, random files, good and damaged, and
+//! sheets, good and damaged (`list`, `rules` and `sheets` say which, `questions` what is asked about files, `step` how it
+//! is stored). A change of `sample` or of `plan` changes it: write it anew.
 
 mod answer;
 mod list;
 mod questions;
 mod rules;
+mod sheets;
 mod step;
 
 use answer::State;
-use second::refusal::BUFFER;
+use second::refusal::{SHEET_LAYOUT, SHEET_LONG};
 use std::collections::BTreeSet;
 use std::path::PathBuf;
 use std::process::ExitCode;
@@ -73,10 +74,11 @@ impl Stored {
     }
 }
 
-/// The numbers of document 01, and 0, that no call gives.
+/// The numbers, and 0, that no call gives. 26 needs a file of 4 GB.
 fn missing(steps: &[Step]) -> Vec<u32> {
-    let given: BTreeSet<u32> = list::given(steps).into_iter().map(|(_, n)| n).collect();
-    (0..=BUFFER).filter(|n| !given.contains(n)).collect()
+    let mut given: BTreeSet<u32> = list::given(steps).into_iter().map(|(_, n)| n).collect();
+    given.insert(SHEET_LONG);
+    (0..=SHEET_LAYOUT).filter(|n| !given.contains(n)).collect()
 }
 
 /// What is wrong with a stored list, whose steps would be `steps` if it were written now.
@@ -124,11 +126,19 @@ fn main() -> ExitCode {
 mod tests {
     use super::*;
 
-    /// The stored list is the one that would be written, and has every number.
+    /// The stored list is the one that would be written, and has every number; a sheet is written with each that a plane
+    /// gives, and read with each of its own.
     #[test]
     fn stored() {
         let steps = list::steps();
         assert_eq!(missing(&steps), []);
+        let given = list::given(&steps);
+        let numbers = |call: &str| {
+            let of = given.iter().filter(|(name, _)| *name == call);
+            of.map(|(_, number)| *number).collect::<Vec<u32>>()
+        };
+        assert_eq!(numbers("sheet"), numbers("plane"));
+        assert_eq!(numbers("read"), [0, 25, 27]);
         assert_eq!(fault(&Stored::read().unwrap(), &steps), None);
     }
 

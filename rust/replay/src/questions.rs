@@ -5,6 +5,7 @@ use crate::step::{Step, MOST_BYTES};
 use plan::{Plan, TREES};
 use sample::Rng;
 use second::refusal::TABLE;
+use second::sheets::HEAD_BYTES;
 use second::trees::ENTRY_BYTES;
 use second::{Channel, Summary};
 
@@ -100,12 +101,14 @@ fn with_map(rng: &mut Rng, file: &[u8], plan: &Plan) -> Vec<Step> {
         steps.push(Step::Summary(plan.summary));
     }
     steps.extend(planes(plan));
+    steps.extend(sheets(plan));
     steps.extend(trees(rng, file, plan));
     steps.extend(channels(rng, file, plan));
     steps.extend(registers(&plan.summary, plan.spare));
     for &summary in &plan.strange {
         steps.push(Step::Summary(summary));
         steps.extend(any(summary));
+        steps.push(any_sheet());
     }
     steps
 }
@@ -131,6 +134,20 @@ fn planes(plan: &Plan) -> Vec<Step> {
     asked
         .map(|(&at, buffer)| Step::Plane { at, buffer })
         .collect()
+}
+
+/// The first plane as a sheet, and another: with a buffer that is just enough, one byte short, or out of range.
+fn sheets(plan: &Plan) -> Vec<Step> {
+    let enough = HEAD_BYTES + needed(plan.summary.attributes().plane_bytes());
+    let mut steps = vec![Step::Sheet {
+        at: [0; 4],
+        buffer: enough + plan.spare,
+    }];
+    let others = plan.planes.iter().skip(1);
+    let mut others = others.zip([enough, enough - 1, enough + 7]);
+    let other = others.nth(plan.room % 3);
+    steps.extend(other.map(|(&at, buffer)| Step::Sheet { at, buffer }));
+    steps
 }
 
 /// A plane by the border, with a table and a buffer that may be just too short.
@@ -231,14 +248,22 @@ fn any(summary: Summary) -> [Step; 4] {
     ]
 }
 
-/// One of these with a summary that is refused.
+/// A sheet by a summary of which nothing is known.
+fn any_sheet() -> Step {
+    Step::Sheet {
+        at: [0; 4],
+        buffer: HEAD_BYTES + 200,
+    }
+}
+
+/// One of these, and a sheet, with a summary that is refused.
 fn wild(rng: &mut Rng, plan: &Plan) -> Vec<Step> {
     let Some(&summary) = plan.wild.first() else {
         return Vec::new();
     };
     let one = rng.pick(&[0, 1, 2, 3]);
     let call = any(summary).into_iter().nth(one);
-    [Some(Step::Summary(summary)), call]
+    [Some(Step::Summary(summary)), call, Some(any_sheet())]
         .into_iter()
         .flatten()
         .collect()

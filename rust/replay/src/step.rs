@@ -5,9 +5,9 @@
 //! | u32 | the kind, from 1 in the order of `Step` |
 //! | u32 | the bytes that follow the step |
 //! | u32 | the bytes that are lent as a table |
-//! | u32 | the bytes that are lent as samples, as a register or as a row of channels |
+//! | u32 | the bytes that are lent as samples, as a register, as a row of channels or as a sheet |
 //! | u64 × 4 | scene, t, c and z |
-//! | | what follows: a label's text, a file, a summary, a tree's name |
+//! | | what follows: a label's text, a file, a summary, a tree's name, a sheet that is read |
 //!
 //! A summary is 14 u64: axis (0 T, 1 Z, 2 P) and count of each loop, depth, width, row bytes, height, components, bits,
 //! the map data's position and length; it has no calibration. A file, or what is lent, has at most 65,536 bytes.
@@ -44,6 +44,14 @@ pub enum Step {
     },
     Channels {
         table: usize,
+        buffer: usize,
+    },
+    Sheet {
+        at: [u64; 4],
+        buffer: usize,
+    },
+    ReadSheet {
+        sheet: Vec<u8>,
         buffer: usize,
     },
 }
@@ -142,6 +150,11 @@ impl Step {
             7 => Step::Register { buffer },
             8 => Step::Border { at, table, buffer },
             9 => Step::Channels { table, buffer },
+            10 => Step::Sheet { at, buffer },
+            11 => Step::ReadSheet {
+                sheet: rest,
+                buffer,
+            },
             _ => return None,
         })
     }
@@ -157,6 +170,8 @@ impl Step {
             Step::Register { buffer } => (7, 0, buffer, [0; 4]),
             Step::Border { at, table, buffer } => (8, table, buffer, at),
             Step::Channels { table, buffer } => (9, table, buffer, [0; 4]),
+            Step::Sheet { at, buffer } => (10, 0, buffer, at),
+            Step::ReadSheet { buffer, .. } => (11, 0, buffer, [0; 4]),
         };
         Head {
             kind,
@@ -173,6 +188,7 @@ impl Step {
             Step::File(bytes) => bytes.clone(),
             Step::Summary(s) => numbers(s).into_iter().flat_map(u64::to_le_bytes).collect(),
             Step::Tree { name, .. } => name.clone(),
+            Step::ReadSheet { sheet, .. } => sheet.clone(),
             _ => Vec::new(),
         }
     }

@@ -4,6 +4,7 @@ use crate::file::{MapEntry, Nd2};
 use crate::parts::{self, Plane, Sizes};
 use crate::roller::roller;
 use crate::tree::{level, u32, Record};
+use std::io::{self, Seek, Write};
 
 /// A file's name in reports, and what writes it.
 pub type Corner = (&'static str, fn() -> Vec<u8>);
@@ -83,4 +84,11 @@ fn all_covered() -> Vec<u8> {
     file.add(parts::CHANNELS, &parts::channels(&planes).encode());
     file.add(&parts::frame_name(0), &parts::frame(&[7; 1024]));
     file.finish()
+}
+
+/// Writes a file of one frame of these sizes, all zero: a hole, which takes no room on a disk however large it is.
+pub fn hollow(sizes: Sizes, out: &mut (impl Write + Seek)) -> io::Result<()> {
+    let mut file = needed(sizes, parts::experiment(&[]));
+    file.add_hole(&parts::frame_name(0), 8 + sizes.stride * sizes.height, out)?;
+    out.write_all(&file.finish())
 }

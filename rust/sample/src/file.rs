@@ -1,6 +1,6 @@
 //! Chunks, the map and the locator.
 
-use std::io::{self, Write};
+use std::io::{self, Seek, SeekFrom, Write};
 
 pub const MARK: u32 = 0x0ABE_CEDA;
 pub const LEGACY: u32 = 0x0C00_0000;
@@ -51,23 +51,47 @@ impl Nd2 {
 
     /// Appends a chunk and its map entry.
     pub fn add(&mut self, name: &str, data: &[u8]) -> &mut Nd2 {
-        let offset = self.place();
+        self.entry(name, data.len() as u64);
+        self.chunk(name.as_bytes(), data)
+    }
+
+    /// Appends a chunk of so many zeros and its map entry, and hands over what is written so far. The zeros are passed
+    /// over, so that on a disk they are a hole.
+    pub fn add_hole(
+        &mut self,
+        name: &str,
+        len: u64,
+        out: &mut (impl Write + Seek),
+    ) -> io::Result<()> {
+        self.entry(name, len);
+        self.header(name.as_bytes(), len);
+        self.hand_over(out)?;
+        self.handed += len;
+        out.seek(SeekFrom::Start(self.handed))?;
+        Ok(())
+    }
+
+    /// The map entry of the chunk that comes next.
+    fn entry(&mut self, name: &str, size: u64) {
         self.entries.push(MapEntry {
             name: name.as_bytes().to_vec(),
-            offset,
-            size: data.len() as u64,
+            offset: self.place(),
+            size,
         });
-        self.chunk(name.as_bytes(), data)
+    }
+
+    /// What stands before a chunk's data.
+    fn header(&mut self, name: &[u8], len: u64) {
+        self.bytes.extend_from_slice(&MARK.to_le_bytes());
+        self.bytes
+            .extend_from_slice(&(name.len() as u32).to_le_bytes());
+        self.bytes.extend_from_slice(&len.to_le_bytes());
+        self.bytes.extend_from_slice(name);
     }
 
     /// Appends a chunk that the map does not have.
     pub fn chunk(&mut self, name: &[u8], data: &[u8]) -> &mut Nd2 {
-        self.bytes.extend_from_slice(&MARK.to_le_bytes());
-        self.bytes
-            .extend_from_slice(&(name.len() as u32).to_le_bytes());
-        self.bytes
-            .extend_from_slice(&(data.len() as u64).to_le_bytes());
-        self.bytes.extend_from_slice(name);
+        self.header(name, data.len() as u64);
         self.bytes.extend_from_slice(data);
         self
     }

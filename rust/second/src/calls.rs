@@ -74,7 +74,7 @@ fn map_of<'a>(file: &'a [u8], summary: &Summary) -> Result<Map<'a>, u32> {
     Map::read(part(file, summary.map).ok_or(SUMMARY)?)
 }
 
-fn number(answer: Result<(), u32>) -> u32 {
+pub(crate) fn number(answer: Result<(), u32>) -> u32 {
     answer.err().unwrap_or(0)
 }
 
@@ -89,12 +89,30 @@ pub fn plane(
     z: u64,
     samples: &mut [u8],
 ) -> u32 {
-    let frame = frame_for(file, summary, [scene, t, c, z], samples.len());
-    number(frame.map(|data| copy(data, summary, c, samples)))
+    let frame = frame_of(file, summary, [scene, t, c, z]);
+    number(frame.and_then(|frame| {
+        fits(plane_bytes(summary)?, samples)?;
+        copy(frame, summary, c, samples);
+        Ok(())
+    }))
 }
 
-/// A frame's bytes after the prefix: "20, 21, 22, 5, 23, 4, 24, 25".
-fn frame_for<'a>(file: &'a [u8], s: &Summary, at: [u64; 4], room: usize) -> Result<&'a [u8], u32> {
+/// 25, the last refusal of a call that writes so many bytes.
+pub(crate) fn fits(bytes: u128, lent: &[u8]) -> Result<(), u32> {
+    if bytes > lent.len() as u128 {
+        return Err(BUFFER);
+    }
+    Ok(())
+}
+
+/// The bytes of a plane, up to the ceiling: 22.
+pub(crate) fn plane_bytes(s: &Summary) -> Result<u128, u32> {
+    let bytes = s.attributes().plane_bytes();
+    bytes.filter(|&bytes| bytes <= MOST_PLANE).ok_or(CEILING)
+}
+
+/// A frame's bytes after the prefix: "20, 21, 22, 5, 23, 4, 24".
+pub(crate) fn frame_of<'a>(file: &'a [u8], s: &Summary, at: [u64; 4]) -> Result<&'a [u8], u32> {
     let [scene, t, _, z] = at;
     if !s.sound(file) {
         return Err(SUMMARY);
@@ -108,18 +126,11 @@ fn frame_for<'a>(file: &'a [u8], s: &Summary, at: [u64; 4], room: usize) -> Resu
     if at.iter().zip(&counts).any(|(index, count)| index >= count) {
         return Err(INDEX);
     }
-    let bytes = s.attributes().plane_bytes().ok_or(CEILING)?;
-    if bytes > MOST_PLANE {
-        return Err(CEILING);
-    }
+    plane_bytes(s)?;
     let map = map_of(file, s)?;
     let name = format!("ImageDataSeq|{}!", s.frame(scene, t, z));
     let offset = map.find(name.as_bytes()).ok_or(NO_FRAME)?;
-    let rows = frame_rows(file, s, chunks::data(file, offset, b"")?)?;
-    if bytes > room as u128 {
-        return Err(BUFFER);
-    }
-    Ok(rows)
+    frame_rows(file, s, chunks::data(file, offset, b"")?)
 }
 
 /// 24: "under 8 bytes, row bytes × height past 2^64 − 1 or more than what follows the prefix".
@@ -134,7 +145,7 @@ fn frame_rows<'a>(file: &'a [u8], s: &Summary, data: Range) -> Result<&'a [u8], 
 }
 
 /// "Writes width × height samples row by row, bytes as in the file; later bytes untouched."
-fn copy(frame: &[u8], s: &Summary, c: u64, samples: &mut [u8]) {
+pub(crate) fn copy(frame: &[u8], s: &Summary, c: u64, samples: &mut [u8]) {
     let size = s.attributes().sample_bytes() as usize;
     let step = s.components as usize * size;
     let first = c as usize * size;

@@ -2,7 +2,7 @@
 //!
 //! Written from the documents (docs/DIFFERENCES.md says what else was at hand), so that the proved reader and the original
 //! can be held against it. One file for each of document 01's headings; `calls` has the calls themselves. Of document 02 it
-//! has the first change request, in `channels`.
+//! has the first change request, in `channels`, and the second, in `sheets`.
 
 pub mod attributes;
 pub mod bytes;
@@ -15,10 +15,12 @@ pub mod map;
 pub mod names;
 pub mod numbers;
 pub mod refusal;
+pub mod sheets;
 pub mod summary;
 pub mod trees;
 pub mod values;
 
 pub use calls::{channels, open, plane, read_plane, register, tree};
 pub use channels::Channel;
+pub use sheets::{read_sheet, sheet, Sheet};
 pub use summary::{Axis, Loop, Range, Summary};

@@ -1,4 +1,4 @@
-//! "Why a file is turned away": the numbers, by their trade words.
+//! "Why a file is turned away": the numbers, by their trade words. 26 and 27 are the second change request's.
 
 pub const FOREIGN: u32 = 1;
 pub const LEGACY: u32 = 2;
@@ -25,3 +25,5 @@ pub const CEILING: u32 = 22;
 pub const NO_FRAME: u32 = 23;
 pub const FRAME_SHORT: u32 = 24;
 pub const BUFFER: u32 = 25;
+pub const SHEET_LONG: u32 = 26;
+pub const SHEET_LAYOUT: u32 = 27;
