@@ -15,9 +15,8 @@ const TARGET: Target = Target {
     most: 1.1,
 };
 
-/// The last component of a file of one frame, written as a sheet. The plane beside it goes to where the sheet has its
-/// samples, so that the calls are judged and not the place. Where it is the only component, also with the plane at the
-/// buffer's start, as callers lend it, and read.
+/// The last component of a file of one frame, written as a sheet beside its plane; where it is the only component, also
+/// read.
 pub fn rows(sizes: Sizes, repetitions: u32) -> Vec<Row> {
     let file = files::one_frame(sizes);
     let case = Case::new(&file, None);
@@ -32,12 +31,9 @@ pub fn rows(sizes: Sizes, repetitions: u32) -> Vec<Row> {
         target,
     };
     let of = format!("{} of {} bits", components(sizes.components), sizes.bits);
-    let beside = |place| case.sheet(at, place, repetitions, source);
-    let judged = beside(SHEET_HEAD_BYTES);
-    let mut rows = vec![row(format!("sheet, {of}"), judged, Some(TARGET))];
+    let written = case.sheet(at, repetitions, source);
+    let mut rows = vec![row(format!("sheet, {of}"), written, Some(TARGET))];
     if sizes.components == 1 {
-        let told = format!("sheet, {of}, plane at start");
-        rows.push(row(told, beside(0), None));
         let read = case.read_sheet(at, repetitions, source);
         rows.push(row(format!("sheet read, {} bits", sizes.bits), read, None));
     }
@@ -74,9 +70,9 @@ impl Case<'_> {
         proved
     }
 
-    /// Sheet and plane are written into the same bytes, which are filled before each turn: they find the same memory, and
-    /// the same in the cache. The second implementation, which takes long and leaves much there, is timed by itself.
-    fn sheet(&self, at: [u64; 4], place: usize, repetitions: u32, source: &[u8]) -> Best {
+    /// Sheet and plane are written to the start of the same bytes, which are filled before each turn: they find the same
+    /// memory, and the same in the cache. The second implementation, which takes long and leaves much there, is timed by itself.
+    fn sheet(&self, at: [u64; 4], repetitions: u32, source: &[u8]) -> Best {
         self.agreed_sheet(at);
         let lent = &RefCell::new(self.sheet_buffer());
         let mut copy = vec![1; source.len()];
@@ -85,7 +81,7 @@ impl Case<'_> {
             assert!(self.proved_sheet(at, black_box(sheet)));
         };
         let plane = move || {
-            let samples = &mut lent.borrow_mut()[place..place + source.len()];
+            let samples = &mut lent.borrow_mut()[..source.len()];
             assert!(proved_plane(&self.proved, at, black_box(samples)));
         };
         let mut frame = self.frame_copied();

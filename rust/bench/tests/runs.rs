@@ -20,7 +20,7 @@ fn every_case_is_in_the_table() {
         "plane, 1 component of 32 bits, padded rows",
         "plane, 3 components of 8 bits",
         "sheet, 1 component of 16 bits ",
-        "sheet, 1 component of 8 bits, plane at start",
+        "sheet, 1 component of 8 bits ",
         "sheet, 3 components of 32 bits",
         "sheet read, 16 bits",
         "1.1 x plane: ",

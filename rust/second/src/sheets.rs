@@ -5,20 +5,20 @@ use crate::calls::{copy, fits, frame_of, number, plane_bytes};
 use crate::refusal::{BUFFER, SHEET_LAYOUT, SHEET_LONG};
 use crate::summary::Summary;
 
-/// "up to 4,294,967,295 bytes"
+/// The most bytes that a sheet has.
 const MOST_SHEET: u128 = 4_294_967_295;
 
 const BYTE_ORDER: &[u8; 2] = b"II";
 const VERSION: u16 = 42;
 
-/// "one directory at byte 8": a u16 that says how many entries, the entries, and the u32 place of a further directory.
+/// Where the directory is: a u16 that says how many entries, the entries, and the u32 place of a further directory.
 const DIRECTORY: usize = 8;
 const ENTRY: usize = 12;
 const ENTRIES: usize = DIRECTORY + 2;
 const NEXT: usize = ENTRIES + ENTRY * TAGS.len();
-/// "resolutions 1/1 at bytes 170 and 178"
+/// Where the two resolutions stand.
 const RESOLUTIONS: [usize; 2] = [170, 178];
-/// "one uncompressed strip of all rows [...] at byte 186": so many bytes stand before the samples.
+/// So many bytes stand before the samples.
 pub const HEAD_BYTES: usize = 186;
 
 /// The types of fields, by TIFF's numbers.
@@ -29,8 +29,7 @@ enum Kind {
     Rational = 5,
 }
 
-/// "thirteen fields in rising tag order"; "fields 256, 257, 273, 278 and 279 are LONG, 282 and 283 RATIONAL, the others
-/// SHORT".
+/// The tags of the fields and their types, in the order of the entries.
 const TAGS: [(u16, Kind); 13] = [
     (256, Kind::Long),     // width
     (257, Kind::Long),     // height
@@ -55,8 +54,7 @@ pub struct Sheet {
     pub bits: u64,
 }
 
-/// The plane call with a sheet for its samples: "20, 21, 22, 5, 23, 4, 24", then "26, [...] judged after 24 and before
-/// 25".
+/// The plane call with a sheet for its samples: its refusals up to 24, then 26, then 25.
 #[allow(clippy::too_many_arguments)]
 pub fn sheet(
     file: &[u8],
@@ -111,7 +109,7 @@ fn values(s: &Summary) -> [Value; 13] {
     ]
 }
 
-/// "Sample format is 1 for 8 and 16 bits and 3 for 32."
+/// 1 for unsigned whole numbers, 3 for IEEE floating point.
 fn sample_format(bits: u64) -> u64 {
     if bits == 32 {
         3
@@ -145,8 +143,7 @@ fn head(s: &Summary) -> Vec<u8> {
     out
 }
 
-/// "Also read such a sheet: the samples, sizes and bits that went in come out"; "27, the lent sheet is not of this layout,
-/// judged first".
+/// The samples of a sheet into the lent bytes, and what it says of them: 27, then 25.
 pub fn read_sheet(sheet: &[u8], samples: &mut [u8]) -> Result<Sheet, u32> {
     let (sizes, strip) = read(sheet).ok_or(SHEET_LAYOUT)?;
     let place = samples.get_mut(..strip.len()).ok_or(BUFFER)?;
@@ -190,7 +187,7 @@ fn directory(sheet: &[u8]) -> Option<[u32; 13]> {
 }
 
 /// The value of an entry, if that is the field of this tag and this type. A SHORT stands in the first two of four bytes,
-/// and "unused bytes" are "zero".
+/// and the other two are zero.
 fn field(entry: &[u8], tag: u16, kind: Kind) -> Option<u32> {
     let of_kind = u16_at(entry, 0)? == tag && u16_at(entry, 2)? == kind as u16;
     if !of_kind || u32_at(entry, 4)? != 1 {
