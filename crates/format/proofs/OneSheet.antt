@@ -1,5 +1,5 @@
--- A sheet of 3 × 2 samples of 16 bits, byte by byte as programs that read TIFF take it, is what the definition gives, and is read back; what is not, is turned away.
--- Assumes nothing.
+-- A sheet of 3 × 2 samples of 16 bits, byte by byte as programs that read TIFF take it: it is what the definition gives, it is read back, and what is not quite
+-- it is turned away. Assumes nothing.
 use Prim.Native.Nat.{ℕ}
 use mathlib.Core.Path.{_≡_, refl}
 use mathlib.Core.List.{List, [], _∷_, _++_}
@@ -44,23 +44,23 @@ unfolding sheet sheetHead tiffHeader tiffDirectory sheetFields rationalBytes eac
 one-sheet = refl
 
 pub one-read : sheetFrom bytes ≡ given (record { width = 3; height = 2; bits = 16; samples = samples })
-unfolding sheetFrom laidAs badBits same part leAt sheetHead tiffHeader tiffDirectory sheetFields rationalBytes each fieldBytes valueBytes typeNumber sampleFormat
-    leBytes ascii zeros
+unfolding sheetFrom laidAs badBits same part leAt sheetHead tiffHeader tiffDirectory sheetFields rationalBytes each fieldBytes valueBytes typeNumber
+    sampleFormat leBytes ascii zeros
 one-read = refl
 
 -- ---- turned away: with a byte more, with a byte less, and with one that is not zero behind the bits
 
 pub one-longer : sheetFrom (bytes ++ 0 ∷ []) ≡ refused why.sheetLayout
-unfolding sheetFrom laidAs badBits same part leAt sheetHead tiffHeader tiffDirectory sheetFields rationalBytes each fieldBytes valueBytes typeNumber sampleFormat
-    leBytes ascii zeros
+unfolding sheetFrom laidAs badBits same part leAt sheetHead tiffHeader tiffDirectory sheetFields rationalBytes each fieldBytes valueBytes typeNumber
+    sampleFormat leBytes ascii zeros
 one-longer = refl
 
 pub one-shorter : sheetFrom (take 197 bytes) ≡ refused why.sheetLayout
-unfolding sheetFrom laidAs badBits same part leAt sheetHead tiffHeader tiffDirectory sheetFields rationalBytes each fieldBytes valueBytes typeNumber sampleFormat
-    leBytes ascii zeros
+unfolding sheetFrom laidAs badBits same part leAt sheetHead tiffHeader tiffDirectory sheetFields rationalBytes each fieldBytes valueBytes typeNumber
+    sampleFormat leBytes ascii zeros
 one-shorter = refl
 
 pub one-unused : sheetFrom (set bytes 44 1) ≡ refused why.sheetLayout
-unfolding sheetFrom laidAs badBits same part leAt sheetHead tiffHeader tiffDirectory sheetFields rationalBytes each fieldBytes valueBytes typeNumber sampleFormat
-    leBytes ascii zeros
+unfolding sheetFrom laidAs badBits same part leAt sheetHead tiffHeader tiffDirectory sheetFields rationalBytes each fieldBytes valueBytes typeNumber
+    sampleFormat leBytes ascii zeros
 one-unused = refl

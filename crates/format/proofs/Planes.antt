@@ -297,7 +297,8 @@ module _ (s : List ℕ) (u : Summary) (scene t c z : ℕ) (r : Range) where
     in-file : r .start + r .len ≤ length s
     in-file = let k = f .frame-data .chunk in omega (arith, k .data-within, k .data-start, k .data-len)
 
-    whole : (i : ℕ) → i < u .width * u .height → samplePlace (shapeOf u) (r .start) c ((0 + i) / u .width) ((0 + i) % u .width) + sampleBytes (u .bits) ≤ length s
+    whole : (i : ℕ) → i < u .width * u .height
+        → samplePlace (shapeOf u) (r .start) c ((0 + i) / u .width) ((0 + i) % u .width) + sampleBytes (u .bits) ≤ length s
     whole i h =
         let h₂ : 0 + i < u .height * u .width = omega arith in
         let k = in-data ((0 + i) / u .width) ((0 + i) % u .width) (div-lt-iff-lt-mul some-width .1 h₂) (mod-lt (0 + i) some-width) in
@@ -335,7 +336,7 @@ module _ (s : List ℕ) (u : Summary) (scene t c z : ℕ) (r : Range) where
           sample = λ y x k hy hx hk.
               let k₁ : suc y * u .width ≤ u .height * u .width = mul-le-mul-right (u .width) hy in
               let below : y * u .width + x < u .width * u .height = omega arith in
-              let k₂ : suc (y * u .width + x) * sampleBytes (u .bits) ≤ u .width * u .height * sampleBytes (u .bits) = mul-le-mul-right (sampleBytes (u .bits)) below in
+              let k₂ : suc (y * u .width + x) * sampleBytes (u .bits) ≤ planeBytes (shapeOf u) = mul-le-mul-right (sampleBytes (u .bits)) below in
               over-at (planeSamples s u c r) buf _ (rw plane-length (omega arith)) ∙ plane-at y x k hy hx hk;
           later = λ i h. over-later (planeSamples s u c r) buf i (rw plane-length h);
           length-kept = over-length (planeSamples s u c r) buf (rw plane-length room);

@@ -189,7 +189,9 @@ module _ (s : List ℕ) (u : Summary) (scene t c z : ℕ) (lent : List ℕ) wher
   plane-written samples e h =
       let (r, q) = write-found e in
       let f = fitting r q in
-      rw (q, plane-framed r samples (f .framed) h, front (made r f) lent size (long-made r f), front (xs r f) samples (planeBytes (shapeOf u)) (long-xs r f)) (refl, refl)
+      let e₁ = front (made r f) lent size (long-made r f) in
+      let e₂ = front (xs r f) samples (planeBytes (shapeOf u)) (long-xs r f) in
+      rw (q, plane-framed r samples (f .framed) h, e₁, e₂) (refl, refl)
 
 -- ---- reading
 

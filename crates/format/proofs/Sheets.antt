@@ -13,7 +13,8 @@ use Rattle.format.specs.Answer.{Answer, given, refused}
 use Rattle.format.specs.Bytes.{leAt, leBytes, part, ascii, zeros, same, each}
 use Rattle.format.specs.Refusals as why
 use Rattle.format.specs.Attributes.{sampleBytes, badBits}
-use Rattle.format.specs.Sheets.{FieldType, SHORT, LONG, RATIONAL, TiffField, short, long, rational, tiffHeader, valueBytes, typeNumber, fieldBytes, tiffDirectory, rationalBytes}
+use Rattle.format.specs.Sheets.{FieldType, SHORT, LONG, RATIONAL, TiffField, short, long, rational}
+use Rattle.format.specs.Sheets.{tiffHeader, valueBytes, typeNumber, fieldBytes, tiffDirectory, rationalBytes}
 use Rattle.format.specs.Sheets.{sampleFormat, sheetFields, sheetHead, sheet, sheetBytes, mostSheetBytes}
 use Rattle.format.specs.Calls.Sheet.{SheetSaid, laidAs, sheetFrom}
 use Rattle.format.specs.Grammar.Attributes as attributes
@@ -63,10 +64,14 @@ rational-bytes : (n d : ℕ) → AllBytes (rationalBytes n d)
 unfolding rationalBytes
 rational-bytes n d = bytes-append (leBytes 4 n) (leBytes 4 d) (le-bytes 4 n) (le-bytes 4 d)
 
+order-bytes : AllBytes (ascii "II")
+unfolding ascii leBytes
+order-bytes = le-bytes 2 18_761
+
 header-bytes : (place : ℕ) → AllBytes (tiffHeader place)
 unfolding tiffHeader
 header-bytes place =
-    bytes-append (ascii "II" ++ leBytes 2 42) (leBytes 4 place) (bytes-append (ascii "II") (leBytes 2 42) (unfold ascii leBytes in le-bytes 2 18_761) (le-bytes 2 42))
+    bytes-append (ascii "II" ++ leBytes 2 42) (leBytes 4 place) (bytes-append (ascii "II") (leBytes 2 42) order-bytes (le-bytes 2 42))
     (le-bytes 4 place)
 
 directory-bytes : (fs : List TiffField) → AllBytes (tiffDirectory fs)

@@ -44,7 +44,7 @@ pub record Sheets : Type 0 where
   pub read-zero : (s samples : List ℕ) → Refuses (sheetReadCall s samples .number)
       → (sheetReadCall s samples .width ≡ 0) × ((sheetReadCall s samples .height ≡ 0) × (sheetReadCall s samples .bits ≡ 0))
   pub read-taken : (s samples : List ℕ) → sheetReadCall s samples .number ≡ 0
-      → SheetTaken s (sheetReadCall s samples .width) (sheetReadCall s samples .height) (sheetReadCall s samples .bits) samples (sheetReadCall s samples .samples)
+      → let said = sheetReadCall s samples in SheetTaken s (said .width) (said .height) (said .bits) samples (said .samples)
   -- 27 is the number exactly where the bytes are no plane's sheet
   pub turned-away : (s samples : List ℕ)
       → (sheetReadCall s samples .number ≡ why.sheetLayout) ↔ ((w h b : ℕ) (xs : List ℕ) → SheetOf s w h b xs → ⊥)

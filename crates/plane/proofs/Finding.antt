@@ -60,7 +60,8 @@ module _ (s : List ℕ) (u : Summary) (scene t c z : ℕ) where
         unfolding frameOf findIn foundAt andThen refuseIf
         looked = rw (q₁, q₂, q₃) (by-map (mapEntries (mapOf s u)))
           where
-            by-map : (x : Answer (List MapEntry)) → andThen (andThen x λ es. given (offsetOf (mapOf s u) name es)) (λ x. andThen (orRefuse x why.noFrame) (foundAt s u))
+            by-map : (x : Answer (List MapEntry))
+                → andThen (andThen x λ es. given (offsetOf (mapOf s u) name es)) (λ x. andThen (orRefuse x why.noFrame) (foundAt s u))
                 ≡ andThen x λ es. andThen (orRefuse (offsetOf (mapOf s u) name es) why.noFrame) λ o.
                 andThen (chunkData [] s o) λ r. refuseIf (badFrame u (r .len)) why.frameShort (given r)
             by-map (refused n) = refl

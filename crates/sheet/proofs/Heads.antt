@@ -43,11 +43,13 @@ pub rational-stored : (t : List ℕ) (i tag v : ℕ) → sets (sets t i (front t
 unfolding fieldBytes typeNumber valueBytes leBytes
 rational-stored t i tag v = sym (stored-two t (front tag 5) (leBytes 4 v) i 8 refl)
 
-pub short-stored : (t : List ℕ) (i tag v : ℕ) → sets (sets (sets t i (front tag 3)) (i + 8) (leBytes 2 v)) (i + 10) (leBytes 2 0) ≡ sets t i (fieldBytes (short tag v))
+pub short-stored : (t : List ℕ) (i tag v : ℕ)
+    → sets (sets (sets t i (front tag 3)) (i + 8) (leBytes 2 v)) (i + 10) (leBytes 2 0) ≡ sets t i (fieldBytes (short tag v))
 unfolding fieldBytes typeNumber valueBytes leBytes zeros
 short-stored t i tag v =
     let e : i + 8 + 2 ≡ i + 10 = omega arith in
-    sym (stored-two t (front tag 3) (leBytes 2 v ++ leBytes 2 0) i 8 refl ∙ stored-two (sets t i (front tag 3)) (leBytes 2 v) (leBytes 2 0) (i + 8) 2 refl ∙ rw e refl)
+    sym (stored-two t (front tag 3) (leBytes 2 v ++ leBytes 2 0) i 8 refl
+    ∙ stored-two (sets t i (front tag 3)) (leBytes 2 v) (leBytes 2 0) (i + 8) 2 refl ∙ rw e refl)
 
 -- ---- fields
 
@@ -60,7 +62,8 @@ field-length f = go (f .type)
     go LONG = unfold valueBytes leBytes in refl
     go RATIONAL = unfold valueBytes leBytes in refl
 
-next : (t : List ℕ) (i : ℕ) (f : TiffField) (fs : List TiffField) → sets t i (each fieldBytes (f ∷ fs)) ≡ sets (sets t i (fieldBytes f)) (i + 12) (each fieldBytes fs)
+next : (t : List ℕ) (i : ℕ) (f : TiffField) (fs : List TiffField)
+    → sets t i (each fieldBytes (f ∷ fs)) ≡ sets (sets t i (fieldBytes f)) (i + 12) (each fieldBytes fs)
 unfolding each
 next t i f fs = stored-two t (fieldBytes f) (each fieldBytes fs) i 12 (field-length f)
 
@@ -98,7 +101,8 @@ module _ (t : List ℕ) where
 each-append : (xs ys : List TiffField) → each fieldBytes (xs ++ ys) ≡ each fieldBytes xs ++ each fieldBytes ys
 unfolding each
 each-append [] ys = refl
-each-append (x ∷ xs) ys = ap (λ (l : List ℕ). fieldBytes x ++ l) (each-append xs ys) ∙ sym (append-assoc (fieldBytes x) (each fieldBytes xs) (each fieldBytes ys))
+each-append (x ∷ xs) ys =
+    ap (λ (l : List ℕ). fieldBytes x ++ l) (each-append xs ys) ∙ sym (append-assoc (fieldBytes x) (each fieldBytes xs) (each fieldBytes ys))
 
 stored-over : (xs t : List ℕ) → length xs ≤ length t → sets t 0 xs ≡ over xs t
 unfolding over
@@ -122,17 +126,20 @@ module _ (t : List ℕ) (w h b n : ℕ) (whole : n ≡ w * h * sampleBytes b) wh
       ∙ ap (λ (l : List ℕ). image ++ l) (each-append (stripFields h (w * h * sampleBytes b)) (resolutionFields b)))
 
   -- and the directory, with its number of entries before and the place of the next one behind them
-  directory-stored : (d : List ℕ) → sets d 8 (tiffDirectory (sheetFields w h b)) ≡ sets (sets (sets (sets (sets d 8 (leBytes 2 13)) 10 image) 70 strip) 118 resolution) 166 (leBytes 4 0)
+  directory-stored : (d : List ℕ) → sets d 8 (tiffDirectory (sheetFields w h b))
+      ≡ sets (sets (sets (sets (sets d 8 (leBytes 2 13)) 10 image) 70 strip) 118 resolution) 166 (leBytes 4 0)
   unfolding tiffDirectory leBytes each fieldBytes valueBytes typeNumber zeros sheetFields
   directory-stored d =
       let d₂ = sets d 8 (leBytes 2 13) in
       stored-two d (leBytes 2 13 ++ each fieldBytes (sheetFields w h b)) (leBytes 4 0) 8 158 refl
       ∙ ap (λ (l : List ℕ). sets l 166 (leBytes 4 0))
-      (stored-two d (leBytes 2 13) (each fieldBytes (sheetFields w h b)) 8 2 refl ∙ ap (sets d₂ 10) in-parts ∙ stored-two d₂ image (strip ++ resolution) 10 60 refl
+      (stored-two d (leBytes 2 13) (each fieldBytes (sheetFields w h b)) 8 2 refl ∙ ap (sets d₂ 10) in-parts
+      ∙ stored-two d₂ image (strip ++ resolution) 10 60 refl
       ∙ stored-two (sets d₂ 10 image) strip resolution 70 48 refl)
 
   pub head-stored : 186 ≤ length t
-      → sets (sets (sets (sets (sets (sets (sets (sets t 0 (tiffHeader 8)) 8 (leBytes 2 13)) 10 image) 70 strip) 118 resolution) 166 (leBytes 4 0)) 170 (rationalBytes 1 1)) 178 (rationalBytes 1 1)
+      → sets (sets (sets (sets (sets (sets (sets (sets t 0 (tiffHeader 8)) 8 (leBytes 2 13)) 10 image) 70 strip) 118 resolution) 166 (leBytes 4 0))
+      170 (rationalBytes 1 1)) 178 (rationalBytes 1 1)
       ≡ over (sheetHead w h b) t
   unfolding sheetHead tiffHeader tiffDirectory leBytes each fieldBytes valueBytes typeNumber zeros sheetFields rationalBytes ascii
   head-stored room =

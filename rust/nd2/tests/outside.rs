@@ -6,6 +6,7 @@ use nd2::Reader;
 use sample::parts::{self, Sizes};
 use sample::Nd2;
 use std::fs;
+use std::io::{self, Write};
 use std::path::{Path, PathBuf};
 use std::process::{Command, Output};
 
@@ -95,8 +96,10 @@ fn ran(program: &str, words: &[&Path]) -> Option<Output> {
     }
 }
 
+/// Written past the test's own output, which a test that passes does not show.
 fn passed_over(program: &str) {
-    eprintln!("passed over: {program} is not there");
+    let told = writeln!(io::stderr(), "passed over: {program} is not there");
+    told.expect("the standard error takes it");
 }
 
 /// What a program wrote that ended well and complained of nothing.

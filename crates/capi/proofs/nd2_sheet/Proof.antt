@@ -27,8 +27,19 @@ returns c =
     let r = l .result in
     let e = l .ensures in
     let k = i .if1 .taken in
-    let (n, b) = both (on-some _ _ r e k) number buffer in
-    (n, (b, (untouched, (where-said s r e k _ first, (unsaid s r e k _, (accepted-said s r e k _ _ accepted, ((λ z. said s r e k _ (written z)), λ z. said s r e k _ (plane z))))))))
+    let (n, b) = both (on-some _ _ r e k) number buffer in (
+      n,
+      (
+        b,
+        (
+          untouched,
+          (
+            where-said s r e k _ first,
+            (unsaid s r e k _, (accepted-said s r e k _ _ accepted, ((λ z. said s r e k _ (written z)), λ z. said s r e k _ (plane z)))),
+          ),
+        ),
+      ),
+    )
 
 returns-2 : tie.Need-returns-2
 unfolding sheetOn

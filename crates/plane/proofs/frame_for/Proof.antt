@@ -35,7 +35,8 @@ returns c =
 returns-2 : tie.Need-returns-2
 returns-2 c =
     let a = c .before .before .before .before .before .args in
-    refused-before (now (a .file)) (a .u) (a .scene) (a .t) (a .c) (a .z) (a .room) _ (rw (c .before .n .given .1) at (c .before .before .before .frame-of .ensures))
+    refused-before (now (a .file)) (a .u) (a .scene) (a .t) (a .c) (a .z) (a .room) _
+    (rw (c .before .n .given .1) at (c .before .before .before .frame-of .ensures))
 
 returns-3 : tie.Need-returns-3
 returns-3 c =

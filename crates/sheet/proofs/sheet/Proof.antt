@@ -39,7 +39,9 @@ module _ (c : tie.After-copy-samples-arg) where
       let k = c .before .before .before .before .before .before in
       let a = k .before .before .before .before .before .before .args in
       let m = head-room (now (a .file)) (a .u) (a .scene) (a .t) (a .c) (a .z) (now (a .lent)) (found k) in
-      rw (headed-length (sheetHead (a .u .width) (a .u .height) (a .u .bits)) [] (now (a .lent)) _ [] (head-length (a .u .width) (a .u .height) (a .u .bits)) (c .before .before .before .before .put-head .ensures) m) m
+      let h = sheetHead (a .u .width) (a .u .height) (a .u .bits) in
+      let long = head-length (a .u .width) (a .u .height) (a .u .bits) in
+      rw (headed-length h [] (now (a .lent)) _ [] long (c .before .before .before .before .put-head .ensures) m) m
 
 sheet-for-requires : tie.Need-sheet-for-requires
 sheet-for-requires c κs = search needs
@@ -91,15 +93,18 @@ copy-samples-requires c κs =
     let i = inside (now (a .file)) (a .u) (a .scene) (a .t) (a .c) (a .z) (now (a .lent)) (found k) in
     let p = prefix (now (a .file)) (a .u) (a .scene) (a .t) (a .c) (a .z) (now (a .lent)) (found k) in
     let m = head-room (now (a .file)) (a .u) (a .scene) (a .t) (a .c) (a .z) (now (a .lent)) (found k) in
+    let h = sheetHead (a .u .width) (a .u .height) (a .u .bits) in
+    let long = head-length (a .u .width) (a .u .height) (a .u .bits) in
     rw (
       rows-length (now (a .file)) r (now (d .data-of .result)) (d .data-of .ensures) i p,
-      strip-length (sheetHead (a .u .width) (a .u .height) (a .u .bits)) [] (now (a .lent)) _ [] (head-length (a .u .width) (a .u .height) (a .u .bits)) (d .before .before .before .put-head .ensures) m,
+      strip-length h [] (now (a .lent)) _ [] long (d .before .before .before .put-head .ensures) m,
     ) (fit (now (a .file)) (a .u) (a .scene) (a .t) (a .c) (a .z) (now (a .lent)) (found k))
 
 returns : tie.Need-returns
 returns c =
     let a = c .before .before .before .before .before .before .args in
-    refused-sheet (now (a .file)) (a .u) (a .scene) (a .t) (a .c) (a .z) (now (a .lent)) (c .before .n .given .0 .0) (rw (c .before .n .given .1) at (c .before .before .before .sheet-for .ensures))
+    refused-sheet (now (a .file)) (a .u) (a .scene) (a .t) (a .c) (a .z) (now (a .lent)) (c .before .n .given .0 .0)
+    (rw (c .before .n .given .1) at (c .before .before .before .sheet-for .ensures))
 
 same-length : tie.Need-same-length
 same-length c = search needs

@@ -45,7 +45,8 @@ returns-2 c =
 returns-3 : tie.Need-returns-3
 returns-3 c =
     let a = c .before .before .before .before .before .args in
-    refused-before (now (a .file)) (a .u) (a .scene) (a .t) (a .c) (a .z) (a .room) _ (rw (c .before .n .given .1) at (c .before .before .before .frame-of .ensures))
+    refused-before (now (a .file)) (a .u) (a .scene) (a .t) (a .c) (a .z) (a .room) _
+    (rw (c .before .n .given .1) at (c .before .before .before .frame-of .ensures))
 
 returns-4 : tie.Need-returns-4
 returns-4 c =

@@ -74,8 +74,8 @@ returns-2 c =
     let q = b .copy-bytes2 .last .1 .0 in
     let d = putMid 0 (a .lead - 0) (now (a .dst)) q in
     let long : length (now (a .src)) ≡ length d = s .pre ∙ sym (same-len-mid 0 (a .lead - 0) (now (a .dst)) q (b .copy-bytes2 .kept .1 .0)) in
-    rest-all (now (a .src)) d (r .copy-run .last .1 .0) (a .lead) (length d)
-    (led (now (a .src)) (now (a .dst)) q (a .lead) (e .if1 .left) (s .pre) (b .copy-bytes2 .ensures)) (omega (arith, s .pre, e .if1 .left)) long refl (r .copy-run .ensures)
+    let first = led (now (a .src)) (now (a .dst)) q (a .lead) (e .if1 .left) (s .pre) (b .copy-bytes2 .ensures) in
+    rest-all (now (a .src)) d (r .copy-run .last .1 .0) (a .lead) (length d) first (omega (arith, s .pre, e .if1 .left)) long refl (r .copy-run .ensures)
 
 pub copy-led-spec : {M : Type 1} → statement M
 copy-led-spec =

@@ -50,7 +50,10 @@ unfolding part
 returns c =
     let s = c .before .before .before .before .before .before .before .before in
     let t = c .before .before .before .before .before in
-    rw sub-zero (pieces-once (now (s .args .src)) (now (s .args .dst)) (c .before .before .copy-led .last .1 .0) (s .args .w) (s .args .stride) (s .args .count) (t .if1 .taken) (inside t) (rw sub-zero at (c .before .before .copy-led .ensures)))
+    let a = s .args in
+    let q = c .before .before .copy-led in
+    rw sub-zero
+    (pieces-once (now (a .src)) (now (a .dst)) (q .last .1 .0) (a .w) (a .stride) (a .count) (t .if1 .taken) (inside t) (rw sub-zero at (q .ensures)))
 
 copy-pieces-requires : tie.Need-copy-pieces-requires
 copy-pieces-requires c κs = search needs

@@ -30,7 +30,8 @@ returns c =
     let p3 = f .before .before .before .before in
     let p2 = p3 .before .before .before .before in
     let p1 = p2 .before .before .before .before in
-    rw (p4 .put-short2 .ensures, f .sample-format .ensures, p3 .put-short .ensures, p2 .put-rational2 .ensures, p1 .put-rational .ensures) (sym (resolution-stored _ _))
+    rw (p4 .put-short2 .ensures, f .sample-format .ensures, p3 .put-short .ensures, p2 .put-rational2 .ensures, p1 .put-rational .ensures)
+    (sym (resolution-stored _ _))
 
 pub put-resolution-spec : {M : Type 1} → statement M
 put-resolution-spec =
