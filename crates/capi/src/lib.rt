@@ -35,8 +35,8 @@ ghost use Rattle.format.specs.Refused.Sheet.{SheetRefusal, sheetOrder, SheetRea
 ghost use Rattle.format.specs.Refused.Tree.{TreeRefusal, treeOrder};
 ghost use Rattle.format.specs.Refused.Channels.{ChannelsRefusal, channelsOrder};
 ghost use Rattle.format.specs.Refused.Register.{RegisterRefusal, registerOrder, Registered};
-ghost use Rattle.format.specs.Sentences.{Refuses, AcceptedUnless, OpensExactly, Different, PlaneCopied, SheetWritten, SheetTaken, TreeEntered};
-ghost use Rattle.sheet.specs.Sentences.{PlaneOn, Blank, TurnedAway};
+ghost use Rattle.format.specs.Sentences.{Refuses, AcceptedUnless, OpensExactly, Different, PlaneCopied, TreeEntered};
+ghost use Rattle.format.specs.Sentences.{SheetWritten, PlaneOn, SheetTaken, TurnedAway, ZeroSizes};
 ghost use Rattle.channels.specs.Ahead.{ahead, Stands};
 ghost use Rattle.layout.specs.Layout.{summaryBytes, summaryFrom, channelRowBytes};
 ghost use Rattle.capi.specs.RowBytes.{RowRecorded};
@@ -151,7 +151,7 @@ pub extern "C" fn nd2_sheet_read(
         → SheetTaken (now (lent .entry)) (now (width .exit)) (now (height .exit)) (now (bits .exit)) (now (samples .entry)) (now (samples .exit))) ⌝ }
     ensures layout { λ r. ⌜ TurnedAway (now (lent .entry)) r ⌝ }
     ensures untouched { λ r. ⌜ (Refuses r → now (samples .exit) ≡ now (samples .entry)) ⌝ }
-    ensures zero { λ r. ⌜ (Refuses r → Blank (now (width .exit)) (now (height .exit)) (now (bits .exit))) ⌝ }
+    ensures zero { λ r. ⌜ (Refuses r → ZeroSizes (now (width .exit)) (now (height .exit)) (now (bits .exit))) ⌝ }
 {
     let said = sheet_read(lent, samples);
     *width = said.width;

@@ -1,5 +1,5 @@
 -- The numbers of the calls that write and read a sheet, what they leave, and that what was written is read back. Assumes nothing.
-use Prim.Native.Nat.{ℕ, _+_, _*_, _≤_, _<_}
+use Prim.Native.Nat.{ℕ, _+_, _≤_, _<_}
 use mathlib.Core.Path.{_≡_, refl, sym, ap, _∙_}
 use mathlib.Core.Logic.{_↔_}
 use mathlib.Core.Bool.{Bool, true, false}
@@ -14,7 +14,7 @@ use Rattle.format.specs.Bytes.{over, zeros}
 use Rattle.format.specs.Refusals as why
 use Rattle.format.specs.Attributes.{sampleBytes, planeBytes}
 use Rattle.format.specs.Summary.{shapeOf}
-use Rattle.format.specs.Sheets.{sheet, sheetBytes, mostSheetBytes}
+use Rattle.format.specs.Sheets.{sheet, mostSheetBytes}
 use Rattle.format.specs.Calls.Plane.{frameOf, frameFor, planeSamples, planeBy, planeCall}
 use Rattle.format.specs.Calls.Sheet.{sheetFor, sheetBy, sheetCall, SheetSaid, sheetFrom, sheetInto, SheetOutcome, sheetReadBy, sheetReadCall}
 use Rattle.format.specs.Grammar.Lists.{In, here, behind}

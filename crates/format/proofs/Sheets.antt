@@ -1,15 +1,15 @@
 -- The bytes of a sheet are those of which the rules hold, and a sheet is read exactly when the rules hold of it. Assumes nothing.
 use Prim.Native.Nat.{ℕ, zero, suc, _+_, _*_, _^_, _≤_, _<_}
 use mathlib.Core.Path.{_≡_, refl, sym, ap, ap₂, _∙_}
-use mathlib.Core.Bool.{Bool, true, false, not, _&&_, cond, false≢true}
+use mathlib.Core.Bool.{Bool, true, false, not, _&&_, cond}
 use mathlib.Core.Logic.{_↔_}
 use mathlib.Core.List.{List, [], _∷_, _++_}
 use native.Mathlib.Nat.{mul-le-mul-left, mul-le-mul-right, mul-one, one-mul}
 use native.Mathlib.Omega.{arith}
 use lib.Dec.{eqb, ltb, leb, lit<, lit≤}
-use lib.ListN.{length, getD, take, drop, length-append, length-drop, take-append-drop, List·getD-append}
+use lib.ListN.{length, take, drop, length-append, length-drop, take-append-drop, List·getD-append}
 use borrow.Author.Tests.{not-true, eqb-true, eq-eqb, ltb-true, lt-ltb, leb-true, le-leb}
-use Rattle.format.specs.Answer.{Answer, given, refused}
+use Rattle.format.specs.Answer.{given, refused}
 use Rattle.format.specs.Bytes.{leAt, leBytes, part, ascii, zeros, same, each}
 use Rattle.format.specs.Refusals as why
 use Rattle.format.specs.Attributes.{sampleBytes, badBits}

@@ -10,10 +10,9 @@ use Rattle.format.specs.Sheets.{sheet}
 use Rattle.format.specs.Calls.Plane.{planeCall}
 use Rattle.format.specs.Calls.Sheet.{sheetCall, sheetReadCall}
 use Rattle.format.specs.Grammar.Sheets.{SheetSizes, SheetOf}
-use Rattle.format.specs.Refusals as why
 use Rattle.format.specs.Refused.Order.{First}
 use Rattle.format.specs.Refused.Sheet.{SheetRefusal, sheetOrder, SheetReadRefusal, sheetReadOrder}
-use Rattle.format.specs.Sentences.{Refuses, AcceptedUnless, SheetWritten, SheetTaken}
+use Rattle.format.specs.Sentences.{Refuses, AcceptedUnless, SheetWritten, PlaneOn, SheetTaken, TurnedAway, ZeroSizes}
 use Rattle.format.specs.declared.Summary.{Summary}
 
 -- Change request 2, "Planes as TIFF sheets".
@@ -31,23 +30,17 @@ pub record Sheets : Type 0 where
       → Refuses (sheetCall file u scene t c z lent .number) → sheetCall file u scene t c z lent .buffer ≡ lent
   pub written : (file : List ℕ) (u : Summary) (scene t c z : ℕ) (lent : List ℕ)
       → sheetCall file u scene t c z lent .number ≡ 0 → SheetWritten file u scene t c z lent (sheetCall file u scene t c z lent .buffer)
-  -- what is written is the sheet of the plane that the plane call gives on the same arguments, whatever samples are lent to that
-  pub plane-written : (file : List ℕ) (u : Summary) (scene t c z : ℕ) (lent samples : List ℕ)
-      → sheetCall file u scene t c z lent .number ≡ 0 → planeBytes (shapeOf u) ≤ length samples
-      → (planeCall file u scene t c z samples .number ≡ 0)
-      × (take (186 + planeBytes (shapeOf u)) (sheetCall file u scene t c z lent .buffer)
-      ≡ sheet (u .width) (u .height) (u .bits) (take (planeBytes (shapeOf u)) (planeCall file u scene t c z samples .buffer)))
+  pub plane-written : (file : List ℕ) (u : Summary) (scene t c z : ℕ) (lent : List ℕ)
+      → sheetCall file u scene t c z lent .number ≡ 0 → PlaneOn file u scene t c z (sheetCall file u scene t c z lent .buffer)
   -- reading
   pub read-number : (s samples : List ℕ) → First (SheetReadRefusal s samples) sheetReadOrder (sheetReadCall s samples .number)
   pub read-accepted : (s samples : List ℕ) → AcceptedUnless (SheetReadRefusal s samples) (sheetReadCall s samples .number)
   pub read-refused : (s samples : List ℕ) → Refuses (sheetReadCall s samples .number) → sheetReadCall s samples .samples ≡ samples
   pub read-zero : (s samples : List ℕ) → Refuses (sheetReadCall s samples .number)
-      → (sheetReadCall s samples .width ≡ 0) × ((sheetReadCall s samples .height ≡ 0) × (sheetReadCall s samples .bits ≡ 0))
+      → let said = sheetReadCall s samples in ZeroSizes (said .width) (said .height) (said .bits)
   pub read-taken : (s samples : List ℕ) → sheetReadCall s samples .number ≡ 0
       → let said = sheetReadCall s samples in SheetTaken s (said .width) (said .height) (said .bits) samples (said .samples)
-  -- 27 is the number exactly where the bytes are no plane's sheet
-  pub turned-away : (s samples : List ℕ)
-      → (sheetReadCall s samples .number ≡ why.sheetLayout) ↔ ((w h b : ℕ) (xs : List ℕ) → SheetOf s w h b xs → ⊥)
+  pub turned-away : (s samples : List ℕ) → TurnedAway s (sheetReadCall s samples .number)
   -- what was written gives sizes and bits back, and leaves in lent samples what the plane call leaves there
   pub read-back : (file : List ℕ) (u : Summary) (scene t c z : ℕ) (lent samples : List ℕ)
       → sheetCall file u scene t c z lent .number ≡ 0 → planeBytes (shapeOf u) ≤ length samples

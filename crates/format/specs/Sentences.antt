@@ -1,5 +1,5 @@
 -- Sentences that the demands and the calls' own contracts are made of, each under a name.
-use Prim.Native.Nat.{ℕ, _+_}
+use Prim.Native.Nat.{ℕ, _+_, _≤_}
 use mathlib.Core.Path.{_≡_}
 use mathlib.Core.Logic.{_↔_}
 use mathlib.Core.List.{List}
@@ -9,6 +9,9 @@ use Rattle.format.specs.Chunks.{dataIn}
 use Rattle.format.specs.Attributes.{planeBytes}
 use Rattle.format.specs.Frames.{seqIndex}
 use Rattle.format.specs.Summary.{shapeOf, loopsOf}
+use Rattle.format.specs.Refusals as why
+use Rattle.format.specs.Sheets.{sheet}
+use Rattle.format.specs.Calls.Plane.{planeCall}
 use Rattle.format.specs.Grammar.Sheets.{SheetOf}
 use Rattle.format.specs.Grammar.Trees.{Tree}
 use Rattle.format.specs.Grammar.File.{Joined}
@@ -60,6 +63,22 @@ pub record SheetWritten (file : List ℕ) (u : Summary) (scene t c z : ℕ) (bef
   pub sheet : SheetOf (take (186 + planeBytes (shapeOf u)) after) (u .width) (u .height) (u .bits) samples
   pub later : drop (186 + planeBytes (shapeOf u)) after ≡ drop (186 + planeBytes (shapeOf u)) before
   pub length-kept : length after ≡ length before
+
+-- the lent bytes begin with the sheet of the plane that the plane call gives on the same arguments, whatever samples are lent to that
+abbrev pub PlaneOn : List ℕ → Summary → ℕ → ℕ → ℕ → ℕ → List ℕ → Type 0
+PlaneOn file u scene t c z after =
+    (samples : List ℕ) → planeBytes (shapeOf u) ≤ length samples
+    → (planeCall file u scene t c z samples .number ≡ 0)
+    × (take (186 + planeBytes (shapeOf u)) after
+    ≡ sheet (u .width) (u .height) (u .bits) (take (planeBytes (shapeOf u)) (planeCall file u scene t c z samples .buffer)))
+
+-- a reading whose number is n gives 27 exactly where s is the sheet of no plane
+abbrev pub TurnedAway : List ℕ → ℕ → Type 0
+TurnedAway s n = (n ≡ why.sheetLayout) ↔ ((w h b : ℕ) (samples : List ℕ) → SheetOf s w h b samples → ⊥)
+
+-- width, height and bits are 0
+abbrev pub ZeroSizes : ℕ → ℕ → ℕ → Type 0
+ZeroSizes w h b = (w ≡ 0) × ((h ≡ 0) × (b ≡ 0))
 
 -- a sheet's samples, sizes and bits, where it is read: the samples in the lent bytes, later bytes as before
 pub record SheetTaken (s : List ℕ) (w h b : ℕ) (before after : List ℕ) : Type 0 where

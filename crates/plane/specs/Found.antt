@@ -1,7 +1,6 @@
 -- What each answer of this crate stands for, and the samples in a frame's rows.
 use Prim.Native.Nat.{ℕ, _*_, _≤_, _<_}
 use mathlib.Core.List.{List, []}
-use lib.Dec.{ltb}
 use Rattle.format.specs.Answer.{Answer, given, refused, refuseIf, andThen}
 use Rattle.format.specs.Refusals as why
 use Rattle.format.specs.Chunks.{chunkData}

@@ -1,34 +1,26 @@
 -- What the calls' numbers and buffers promise, and what they are at each way out. Assumes nothing.
-use Prim.Native.Nat.{ℕ, _+_, _-_, _*_, _≤_, _<_}
+use Prim.Native.Nat.{ℕ, _+_, _-_, _≤_}
 use mathlib.Core.Path.{_≡_, refl, sym, ap, _∙_}
-use mathlib.Core.Bool.{true, false, cond}
 use mathlib.Core.List.{List, [], _++_, append-assoc, append-nil}
 use native.Mathlib.Nat.{mul-comm}
 use native.Mathlib.Omega.{arith}
-use lib.Dec.{ltb}
 use lib.ListN.{length, take, drop, length-append, length-drop}
 use lib.Seq.{take-all, take-at, drop-at, drop-drop, drop-length}
-use borrow.Author.Tests.{lt-ltb, le-ltb}
 use borrow.Rule.Slice.PartMut.{putMid}
-use Rattle.format.specs.Bytes.{leAt, over}
-use Rattle.format.specs.Answer.{Answer, given, refused, refuseIf, andThen}
-use Rattle.format.specs.Refusals as why
-use Rattle.format.specs.Attributes.{planeBytes}
-use Rattle.format.specs.Summary.{shapeOf}
+use Rattle.format.specs.Bytes.{over}
+use Rattle.format.specs.Answer.{given, refused}
 use Rattle.format.specs.Sheets.{sheetHead, sheet}
 use Rattle.format.specs.Calls.Plane.{planeSamples}
-use Rattle.format.specs.Calls.Sheet.{sheetFor, sheetBy, sheetCall, SheetSaid, laidAs, sheetFrom, sheetInto, sheetReadBy, sheetReadCall}
+use Rattle.format.specs.Calls.Sheet.{sheetFor, sheetBy, sheetCall}
 use Rattle.format.specs.Refused.Order.{First}
-use Rattle.format.specs.Refused.Sheet.{SheetRefusal, sheetOrder, SheetReadRefusal, sheetReadOrder}
-use Rattle.format.specs.Sentences.{Refuses, AcceptedUnless, SheetWritten, SheetTaken}
+use Rattle.format.specs.Refused.Sheet.{SheetRefusal, sheetOrder}
+use Rattle.format.specs.Sentences.{Refuses, AcceptedUnless, SheetWritten, PlaneOn}
 use Rattle.format.specs.declared.Range.{Range}
 use Rattle.format.specs.declared.Summary.{Summary}
 use Rattle.format.proofs.Requests.{sheets}
 use Rattle.format.proofs.SheetCalls.{Fitting, fitting}
-use Rattle.format.proofs.Sheets.{head-length}
 use Rattle.plane.specs.Found.{Fit}
 use Rattle.sheet.specs.Fits.{Fits}
-use Rattle.sheet.specs.Sentences.{PlaneOn, Blank, TurnedAway}
 
 -- ---- written
 
@@ -54,7 +46,7 @@ module _ (s : List ℕ) (u : Summary) (scene t c z : ℕ) (lent : List ℕ) wher
           (
             λ q. rw f (sheets .written s u scene t c z lent (sym e ∙ q)),
             (
-              λ q samples room. rw f (sheets .plane-written s u scene t c z lent samples (sym e ∙ q) room),
+              λ q samples room. rw f (sheets .plane-written s u scene t c z lent (sym e ∙ q) samples room),
               λ g. f ∙ sheets .write-refused s u scene t c z lent (λ q. g (e ∙ q)),
             ),
           ),

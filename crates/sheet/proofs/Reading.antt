@@ -1,30 +1,28 @@
 -- Whether a sheet is laid out as one, test by test, and what a reading promises at each way out. Assumes nothing.
 use Prim.Native.Nat.{ℕ, _+_, _-_, _*_, _≤_, _<_}
 use mathlib.Core.Path.{_≡_, refl, sym, ap, _∙_}
-use mathlib.Core.Bool.{Bool, true, false, not, _&&_, _||_, cond, true≢false}
+use mathlib.Core.Bool.{Bool, true, false, _||_, true≢false}
 use mathlib.Core.List.{List, _++_}
 use native.Mathlib.Omega.{arith}
-use lib.Dec.{ltb, leb, eqb}
+use lib.Dec.{ltb, eqb}
 use lib.ListN.{length, take, drop, length-drop}
 use lib.Seq.{take-all}
 use borrow.Author.Tests.{ltb-true, ltb-false, lt-ltb, le-ltb, le-leb, eq-eqb, ne-eqb, eqb-false}
 use Rattle.format.specs.Bytes.{leAt, part, over, same}
-use Rattle.format.specs.Answer.{Answer, given, refused, refuseIf, andThen}
+use Rattle.format.specs.Answer.{refused, refuseIf, andThen}
 use Rattle.format.specs.Refusals as why
 use Rattle.format.specs.Attributes.{sampleBytes, badBits}
 use Rattle.format.specs.Sheets.{sheetHead, sheetBytes, mostSheetBytes}
-use Rattle.format.specs.Grammar.Sheets.{SheetOf}
-use Rattle.format.specs.Calls.Sheet.{SheetSaid, laidAs, sheetFrom, sheetInto, sheetReadBy, sheetReadCall}
+use Rattle.format.specs.Calls.Sheet.{laidAs, sheetFrom, sheetInto, sheetReadBy, sheetReadCall}
 use Rattle.format.specs.Refused.Order.{First}
 use Rattle.format.specs.Refused.Sheet.{SheetReadRefusal, sheetReadOrder}
-use Rattle.format.specs.Sentences.{Refuses, AcceptedUnless, SheetTaken}
+use Rattle.format.specs.Sentences.{Refuses, AcceptedUnless, SheetTaken, TurnedAway, ZeroSizes}
 use Rattle.format.proofs.Tests.{or-left, or-right}
 use Rattle.format.proofs.Requests.{sheets}
 use Rattle.format.proofs.Summaries.{bits-good, good-bits}
 use Rattle.format.proofs.Buffers.{over-all}
 use Rattle.format.proofs.Sheets.{head-length, laid-ruled, size-is-bytes, bits-of-bytes}
 use Rattle.sheet.specs.Fits.{Fits}
-use Rattle.sheet.specs.Sentences.{Blank, TurnedAway}
 
 -- ---- the layout
 
@@ -104,7 +102,7 @@ module _ (s buf : List ℕ) where
   Promised n w h b out =
       (n ≡ sheetReadCall s buf .number) × ((w ≡ sheetReadCall s buf .width) × ((h ≡ sheetReadCall s buf .height) × ((b ≡ sheetReadCall s buf .bits)
       × ((out ≡ sheetReadCall s buf .samples) × (First T sheetReadOrder n × (AcceptedUnless T n × ((n ≡ 0 → SheetTaken s w h b buf out)
-      × (TurnedAway s n × ((Refuses n → out ≡ buf) × (Refuses n → Blank w h b))))))))))
+      × (TurnedAway s n × ((Refuses n → out ≡ buf) × (Refuses n → ZeroSizes w h b))))))))))
 
   promised : {n w h b : ℕ} {out : List ℕ} → n ≡ sheetReadCall s buf .number → w ≡ sheetReadCall s buf .width → h ≡ sheetReadCall s buf .height
       → b ≡ sheetReadCall s buf .bits → out ≡ sheetReadCall s buf .samples → Promised n w h b out
@@ -140,7 +138,7 @@ module _ (s buf : List ℕ) where
     ),
   )
 
-  refused-read : {k n w h b : ℕ} → n ≡ k → Blank w h b → sheetInto s (length buf) ≡ refused k → Promised n w h b buf
+  refused-read : {k n w h b : ℕ} → n ≡ k → ZeroSizes w h b → sheetInto s (length buf) ≡ refused k → Promised n w h b buf
   unfolding sheetReadCall sheetReadBy
   refused-read e (x, (y, z)) q = promised (e ∙ rw q refl) (x ∙ rw q refl) (y ∙ rw q refl) (z ∙ rw q refl) (rw q refl)
 
@@ -151,19 +149,19 @@ module _ (s buf : List ℕ) where
   unfolding sheetInto sheetFrom andThen
   away e = rw e refl
 
-  pub short-read : {n w h b : ℕ} → n ≡ why.sheetLayout → Blank w h b → length s < 186 → Promised n w h b buf
+  pub short-read : {n w h b : ℕ} → n ≡ why.sheetLayout → ZeroSizes w h b → length s < 186 → Promised n w h b buf
   short-read e z l = refused-read e z (away (refuted laid λ q. let k = laid-fits s _ _ _ q .1 in omega arith))
 
   -- width, height and bits where they stand
   module _ {w h b : ℕ} (at-width : w ≡ leAt 4 s 18) (at-height : h ≡ leAt 4 s 30) (at-bits : b ≡ leAt 2 s 42) where
-    pub away-read : {n x y z : ℕ} → n ≡ why.sheetLayout → Blank x y z → false ≡ laidAs s w h b → Promised n x y z buf
+    pub away-read : {n x y z : ℕ} → n ≡ why.sheetLayout → ZeroSizes x y z → false ≡ laidAs s w h b → Promised n x y z buf
     away-read e z l = refused-read e z (away (rw (at-width, at-height, at-bits) at (sym l)))
 
     module _ (l : true ≡ laidAs s w h b) where
       is-laid : laid ≡ true
       is-laid = rw (at-width, at-height, at-bits) at (sym l)
 
-      pub full-read : {n x y z : ℕ} → n ≡ why.buffer → Blank x y z → length buf < length s - 186 → Promised n x y z buf
+      pub full-read : {n x y z : ℕ} → n ≡ why.buffer → ZeroSizes x y z → length buf < length s - 186 → Promised n x y z buf
       full-read e z k = refused-read e z full
         where
           full : sheetInto s (length buf) ≡ refused why.buffer

@@ -21,9 +21,8 @@ ghost use Rattle.format.specs.Sheets.{sheetBytes};
 ghost use Rattle.format.specs.Calls.Sheet.{sheetFor, sheetCall, laidAs, sheetReadCall};
 ghost use Rattle.format.specs.Refused.Order.{First};
 ghost use Rattle.format.specs.Refused.Sheet.{SheetRefusal, sheetOrder, SheetReadRefusal, sheetReadOrder};
-ghost use Rattle.format.specs.Sentences.{Refuses, AcceptedUnless, SheetWritten, SheetTaken};
+ghost use Rattle.format.specs.Sentences.{Refuses, AcceptedUnless, SheetWritten, PlaneOn, SheetTaken, TurnedAway, ZeroSizes};
 ghost use Rattle.plane.specs.Found.{frameAnswer};
-ghost use Rattle.sheet.specs.Sentences.{PlaneOn, Blank, TurnedAway};
 
 mod head; // what stands before the strip
 
@@ -105,7 +104,7 @@ pub struct SheetRead {
 }
 
 fn refused(number: u32) -> SheetRead
-    ensures { λ r. ⌜ (r .number ≡ number) × Blank (r .width) (r .height) (r .bits) ⌝ }
+    ensures { λ r. ⌜ (r .number ≡ number) × ZeroSizes (r .width) (r .height) (r .bits) ⌝ }
 {
     SheetRead {
         number,
@@ -147,7 +146,7 @@ pub fn sheet_read(sheet: &[u8], samples: &mut [u8]) -> SheetRead
         → SheetTaken (now (sheet .entry)) (r .width) (r .height) (r .bits) (now (samples .entry)) (now (samples .exit))) ⌝ }
     ensures layout { λ r. ⌜ TurnedAway (now (sheet .entry)) (r .number) ⌝ }
     ensures untouched { λ r. ⌜ (Refuses (r .number) → now (samples .exit) ≡ now (samples .entry)) ⌝ }
-    ensures zero { λ r. ⌜ (Refuses (r .number) → Blank (r .width) (r .height) (r .bits)) ⌝ }
+    ensures zero { λ r. ⌜ (Refuses (r .number) → ZeroSizes (r .width) (r .height) (r .bits)) ⌝ }
 {
     if sheet.len() < HEAD_BYTES {
         return refused(refusal::SHEET_LAYOUT);

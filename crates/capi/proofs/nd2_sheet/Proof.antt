@@ -1,5 +1,5 @@
 -- `nd2_sheet`: the sheet call on the summary that the bytes say.
-use mathlib.Core.Path.{_≡_, refl}
+use mathlib.Core.Path.{refl}
 use native.Mathlib.Omega.{arith}
 use Rattle.capi.proofs.OnSummary.{on-some, on-none, both, said, where-said, unsaid, accepted-said, where-unsaid, refused-unsaid}
 use Rattle.capi.specs.OnBytes.{sheetOn}

@@ -1,11 +1,7 @@
 -- `laid_as`: one law for each way out.
-use Prim.Native.Nat.{ℕ}
-use mathlib.Core.Path.{_≡_, refl, sym, _∙_}
-use mathlib.Core.Bool.{false, _||_}
+use mathlib.Core.Path.{refl, sym, _∙_}
 use native.Mathlib.Omega.{arith}
-use lib.Dec.{eqb}
 use denote.Ref.{now}
-use Rattle.format.specs.Attributes.{badBits}
 use Rattle.sheet.specs.Fits.{Fits}
 use Rattle.sheet.proofs.Heads.{small}
 use Rattle.sheet.proofs.Reading.{fits-by, bad-sizes, too-long, other-length, head-compared, head-decides}

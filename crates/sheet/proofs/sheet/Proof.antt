@@ -1,11 +1,9 @@
 -- `sheet`: refused, or the head and the samples of the frame that was found.
-use mathlib.Core.Path.{_≡_, ap, _∙_}
-use Prim.Native.Nat.{ℕ, _≤_}
-use native.Mathlib.Omega.{arith}
-use mathlib.Core.List.{List, []}
+use mathlib.Core.Path.{_≡_}
+use Prim.Native.Nat.{_≤_}
+use mathlib.Core.List.{[]}
 use lib.ListN.{length}
 use denote.Ref.{now}
-use Rattle.format.specs.Bytes.{over}
 use Rattle.format.specs.Answer.{given}
 use Rattle.format.specs.Sheets.{sheetHead}
 use Rattle.format.specs.Calls.Sheet.{sheetFor}

@@ -1,9 +1,7 @@
 -- `sheet_read`: one law for each way out.
-use mathlib.Core.Path.{_≡_, sym, _∙_}
+use mathlib.Core.Path.{sym, _∙_}
 use Prim.Native.Nat.{_-_}
 use native.Mathlib.Nat.{sub-zero}
-use native.Mathlib.Omega.{arith}
-use lib.ListN.{length}
 use denote.Ref.{now}
 use Rattle.sheet.proofs.Reading.{short-read, away-read, full-read, taken-read, strip-copied}
 use borrow.Author.Needs.{needs}
