@@ -106,10 +106,10 @@ module _ (s d : List ℕ) (size : ℕ) where
   parts-all q k done m alike ed hd el em eq = rest-all s d q done m (rw (← ed) at (parts-joined k alike)) hd el em eq
 
 -- the first `lead` bytes of d replaced by those of s
-pub led : (s d q : List ℕ) (lead : ℕ) → lead ≤ length d → length s ≡ length d → q ≡ take (lead - 0) (drop 0 s)
+pub lead-copied : (s d q : List ℕ) (lead : ℕ) → lead ≤ length d → length s ≡ length d → q ≡ take (lead - 0) (drop 0 s)
     → take lead (putMid 0 (lead - 0) d q) ≡ take lead s
 unfolding part
-led s d q lead h el e =
+lead-copied s d q lead h el e =
     let z : lead - 0 ≡ lead = omega arith in
     let as-long : length q ≡ lead - 0 = ap length e ∙ part-length s 0 (lead - 0) (omega arith) in
     let put = part-put 0 lead d q (omega arith) h as-long in

@@ -7,14 +7,25 @@ use native.Mathlib.Omega.{arith}
 use lib.ListN.{length}
 use Rattle.format.specs.Bytes.{over}
 use Rattle.format.specs.Answer.{given, refused}
+use Rattle.format.specs.Attributes.{planeBytes}
+use Rattle.format.specs.Summary.{shapeOf}
 use Rattle.format.specs.Calls.Plane.{frameFor, planeSamples, planeBy, planeCall}
 use Rattle.format.specs.Sentences.{Refuses, AcceptedUnless, PlaneCopied}
 use Rattle.format.specs.Refused.Order.{First}
 use Rattle.format.specs.Refused.Plane.{PlaneRefusal, planeOrder}
 use Rattle.format.specs.declared.Range.{Range}
 use Rattle.format.specs.declared.Summary.{Summary}
-use Rattle.format.proofs.Planes.{ready, plane-number, plane-accepted, plane-sample, plane-refused}
+use Rattle.format.proofs.Planes.{Found, ready, plane-number, plane-accepted, plane-sample, plane-refused}
 use Rattle.plane.specs.Found.{Fit}
+
+-- what a frame that was found has; sheets cite it too
+module _ {s : List ℕ} {u : Summary} {scene t c z : ℕ} {r : Range} (f : Found s u scene t c z r) where
+  pub found-inside : r .start + r .len ≤ length s
+  found-inside = let k = f .frame-data .chunk in omega (arith, k .data-within, k .data-start, k .data-len)
+
+  pub found-fit : (room : ℕ) → planeBytes (shapeOf u) ≤ room → Fit u c (r .len - 8) room
+  found-fit room enough =
+      record { bits = f .sound .bits; shape = f .sound .shape; component = f .component; whole = rw mul-comm (f .frame-long .rows); enough = enough }
 
 module _ (s : List ℕ) (u : Summary) (scene t c z : ℕ) (buf : List ℕ) where
   abbrev R : ℕ → Type 0
@@ -49,22 +60,13 @@ module _ (s : List ℕ) (u : Summary) (scene t c z : ℕ) (buf : List ℕ) where
   unfolding planeCall planeBy
   found-plane q e = promised (rw (sym q) refl) (e ∙ rw (sym q) refl)
 
-  -- what a frame that was found has
+  -- the frame of an accepted call
   module _ {r : Range} (q : given r ≡ frameFor s u scene t c z (length buf)) where
     pub inside : r .start + r .len ≤ length s
-    inside = let k = ready s u scene t c z buf r (sym q) .frame-found .frame-data .chunk in omega (arith, k .data-within, k .data-start, k .data-len)
+    inside = found-inside (ready s u scene t c z buf r (sym q) .frame-found)
 
     pub prefix : 8 ≤ r .len
     prefix = ready s u scene t c z buf r (sym q) .frame-found .frame-long .prefix
 
     pub fit : Fit u c (r .len - 8) (length buf)
-    fit =
-        let g = ready s u scene t c z buf r (sym q) in
-        let f = g .frame-found in
-        record {
-          bits = f .sound .bits;
-          shape = f .sound .shape;
-          component = f .component;
-          whole = rw mul-comm (f .frame-long .rows);
-          enough = g .room;
-        }
+    fit = let g = ready s u scene t c z buf r (sym q) in found-fit (g .frame-found) (length buf) (g .room)

@@ -68,7 +68,7 @@ pub fn copy_run(src: &[u8], dst: &mut [u8])
 }
 
 // Copies src into dst, which is as long: `lead` bytes by themselves, so that what is copied in blocks begins where memory takes a block in one piece.
-fn copy_led(src: &[u8], dst: &mut [u8], lead: usize)
+fn copy_with_lead(src: &[u8], dst: &mut [u8], lead: usize)
     requires { ⌜ length (now src) ≡ length (now dst) ⌝ }
     ensures { λ _. ⌜ now (dst .exit) ≡ now (src .entry) ⌝ }
 {
@@ -125,7 +125,7 @@ pub fn copy_whole(src: &[u8], dst: &mut [u8], stride: usize, w: usize, count: us
 {
     if w == stride {
         let n = count * w;
-        copy_led(&src[0..n], &mut dst[0..n], lead);
+        copy_with_lead(&src[0..n], &mut dst[0..n], lead);
         return;
     }
     copy_pieces(src, dst, 0, stride, w, count);

@@ -5,8 +5,7 @@ use chunk::chunk_data;
 use chunk::data_of;
 use chunk::frame::frame_at;
 use chunk::map::Lookup;
-use copy::copy_whole;
-use copy::gather_rows;
+use component::copy_samples;
 use format::Range;
 use format::Summary;
 use format::refusal;
@@ -14,16 +13,14 @@ use summary::bad_index;
 use summary::bad_summary;
 use summary::seq_index;
 ghost use mathlib.Core.Path.{_≡_};
-ghost use Prim.Native.Nat.{_/_};
-ghost use lib.ListN.{length};
-ghost use Rattle.format.specs.Bytes.{over};
 ghost use Rattle.format.specs.Calls.Plane.{badFrame, frameOf, frameFor, planeCall};
 ghost use Rattle.format.specs.Refused.Order.{First};
 ghost use Rattle.format.specs.Refused.Plane.{PlaneRefusal, planeOrder};
 ghost use Rattle.format.specs.Sentences.{Refuses, AcceptedUnless, PlaneCopied};
-ghost use Rattle.plane.specs.Found.{frameAnswer, foundAt, planeIn, Fit};
+ghost use Rattle.plane.specs.Found.{frameAnswer, foundAt};
 
 pub mod copy; // rows of bytes
+pub mod component; // one component's samples, out of a frame's rows
 
 // The number of a plane that is accepted.
 const ACCEPTED: u32 = 0;
@@ -96,58 +93,6 @@ fn frame_for(file: &[u8], u: Summary, scene: u64, t: u64, c: u64, z: u64, room: 
             Frame::Data(r)
         }
     }
-}
-
-// Copies the samples of a frame that has one component: its rows without their padding.
-fn copy_rows(rows: &[u8], u: Summary, c: u64, samples: &mut [u8], lead: usize)
-    requires { ⌜ (u .components ≡ 1) × Fit u c (length (now rows)) (length (now samples)) ⌝ }
-    ensures { λ _. ⌜ now (samples .exit) ≡ over (planeIn u c (now (rows .entry))) (now (samples .entry)) ⌝ }
-{
-    let w = u.width as usize * (u.bits / 8) as usize;
-    copy_whole(rows, samples, u.stride as usize, w, u.height as usize, lead);
-}
-
-// Copies the samples of `size` bytes of component c out of the rows of a frame.
-fn gather_samples(rows: &[u8], u: Summary, c: u64, size: usize, samples: &mut [u8])
-    requires { ⌜ (size ≡ u .bits / 8) × Fit u c (length (now rows)) (length (now samples)) ⌝ }
-    ensures { λ _. ⌜ now (samples .exit) ≡ over (planeIn u c (now (rows .entry))) (now (samples .entry)) ⌝ }
-{
-    let width = u.width as usize;
-    let height = u.height as usize;
-    let stride = u.stride as usize;
-    let components = u.components as usize;
-    let at = c as usize * size;
-    gather_rows(
-        rows,
-        samples,
-        stride,
-        at,
-        components * size,
-        size,
-        width,
-        height,
-    );
-}
-
-// Copies the samples of component c: whole rows where there is no other, and else with each size as a literal, so that it is compiled for each.
-// Where all are one run, `lead` bytes of it are copied first.
-pub fn copy_samples(rows: &[u8], u: Summary, c: u64, samples: &mut [u8], lead: usize)
-    requires { ⌜ Fit u c (length (now rows)) (length (now samples)) ⌝ }
-    ensures { λ _. ⌜ now (samples .exit) ≡ over (planeIn u c (now (rows .entry))) (now (samples .entry)) ⌝ }
-{
-    if u.components == 1 {
-        copy_rows(rows, u, c, samples, lead);
-        return;
-    }
-    if u.bits == 8 {
-        gather_samples(rows, u, c, 1, samples);
-        return;
-    }
-    if u.bits == 16 {
-        gather_samples(rows, u, c, 2, samples);
-        return;
-    }
-    gather_samples(rows, u, c, 4, samples);
 }
 
 // The plane of component c at a point, row by row, into the lent bytes; 0, or the number of the first refusal.

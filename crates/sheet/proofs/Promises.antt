@@ -2,7 +2,6 @@
 use Prim.Native.Nat.{ℕ, _+_, _-_, _≤_}
 use mathlib.Core.Path.{_≡_, refl, sym, ap, _∙_}
 use mathlib.Core.List.{List, [], _++_, append-assoc, append-nil}
-use native.Mathlib.Nat.{mul-comm}
 use native.Mathlib.Omega.{arith}
 use lib.ListN.{length, take, drop, length-append, length-drop}
 use lib.Seq.{take-all, take-at, drop-at, drop-drop, drop-length}
@@ -20,6 +19,7 @@ use Rattle.format.specs.declared.Summary.{Summary}
 use Rattle.format.proofs.Requests.{sheets}
 use Rattle.format.proofs.SheetCalls.{Fitting, fitting}
 use Rattle.plane.specs.Found.{Fit}
+use Rattle.plane.proofs.Promises.{found-inside, found-fit}
 use Rattle.sheet.specs.Fits.{Fits}
 
 -- ---- written
@@ -59,13 +59,13 @@ module _ (s : List ℕ) (u : Summary) (scene t c z : ℕ) (lent : List ℕ) wher
   unfolding sheetCall sheetBy
   refused-sheet n q = promised (rw (sym q) refl) (rw (sym q) refl)
 
-  -- what a frame that was found has
+  -- the frame of an accepted call
   module _ {r : Range} (q : given r ≡ sheetFor s u scene t c z (length lent)) where
     found : Fitting s u scene t c z lent r
     found = fitting s u scene t c z lent r (sym q)
 
     pub inside : r .start + r .len ≤ length s
-    inside = let k = found .found .frame-data .chunk in omega (arith, k .data-within, k .data-start, k .data-len)
+    inside = found-inside (found .found)
 
     pub prefix : 8 ≤ r .len
     prefix = found .found .frame-long .prefix
@@ -79,15 +79,7 @@ module _ (s : List ℕ) (u : Summary) (scene t c z : ℕ) (lent : List ℕ) wher
         record { width-some = f .sound .shape .width-some; height-some = f .sound .shape .height-some; bits = f .sound .bits; most = found .most }
 
     pub fit : Fit u c (r .len - 8) (length lent - 186)
-    fit =
-        let f = found .found in
-        record {
-          bits = f .sound .bits;
-          shape = f .sound .shape;
-          component = f .component;
-          whole = rw mul-comm (f .frame-long .rows);
-          enough = omega (arith, found .room);
-        }
+    fit = found-fit (found .found) (length lent - 186) (omega (arith, found .room))
 
     pub written-sheet : {out : List ℕ} → out ≡ over (sheetHead (u .width) (u .height) (u .bits) ++ planeSamples s u c r) lent → Promised 0 out
     unfolding sheetCall sheetBy sheet

@@ -14,11 +14,11 @@ use Rattle.plane.proofs.copy.copy_whole.Tie as tie
 mul-n : tie.Need-mul-n
 mul-n c = omega arith
 
-sub-copy-led : tie.Need-sub-copy-led
-sub-copy-led c = search needs
+sub-copy-with-lead : tie.Need-sub-copy-with-lead
+sub-copy-with-lead c = search needs
 
-part-copy-led-start : tie.Need-part-copy-led-start
-part-copy-led-start c = search needs
+part-copy-with-lead-start : tie.Need-part-copy-with-lead-start
+part-copy-with-lead-start c = search needs
 
 -- the rows are within src
 inside : (c : tie.Then1) → let a = c .before .before .before .args in a .count * a .w ≤ length (now (a .src))
@@ -27,20 +27,20 @@ inside c =
     let e : s .args .w ≡ s .args .stride = omega arith in
     rw e (s .pre .1)
 
-part-copy-led-end : tie.Need-part-copy-led-end
-part-copy-led-end c = omega (arith, inside c)
+part-copy-with-lead-end : tie.Need-part-copy-with-lead-end
+part-copy-with-lead-end c = omega (arith, inside c)
 
-sub-copy-led-2 : tie.Need-sub-copy-led-2
-sub-copy-led-2 c = search needs
+sub-copy-with-lead-2 : tie.Need-sub-copy-with-lead-2
+sub-copy-with-lead-2 c = search needs
 
-part-copy-led-start-2 : tie.Need-part-copy-led-start-2
-part-copy-led-start-2 c = search needs
+part-copy-with-lead-start-2 : tie.Need-part-copy-with-lead-start-2
+part-copy-with-lead-start-2 c = search needs
 
-part-copy-led-end-2 : tie.Need-part-copy-led-end-2
-part-copy-led-end-2 c = search needs
+part-copy-with-lead-end-2 : tie.Need-part-copy-with-lead-end-2
+part-copy-with-lead-end-2 c = search needs
 
-copy-led-requires : tie.Need-copy-led-requires
-copy-led-requires c κs = search needs
+copy-with-lead-requires : tie.Need-copy-with-lead-requires
+copy-with-lead-requires c κs = search needs
 
 same-length : tie.Need-same-length
 same-length c = search needs
@@ -51,7 +51,7 @@ returns c =
     let s = c .before .before .before .before .before .before .before .before in
     let t = c .before .before .before .before .before in
     let a = s .args in
-    let q = c .before .before .copy-led in
+    let q = c .before .before .copy-with-lead in
     rw sub-zero
     (pieces-once (now (a .src)) (now (a .dst)) (q .last .1 .0) (a .w) (a .stride) (a .count) (t .if1 .taken) (inside t) (rw sub-zero at (q .ensures)))
 
@@ -69,13 +69,13 @@ copy-whole-spec =
     tie.close
     (tie.spec
     mul-n
-    sub-copy-led
-    part-copy-led-start
-    part-copy-led-end
-    sub-copy-led-2
-    part-copy-led-start-2
-    part-copy-led-end-2
-    copy-led-requires
+    sub-copy-with-lead
+    part-copy-with-lead-start
+    part-copy-with-lead-end
+    sub-copy-with-lead-2
+    part-copy-with-lead-start-2
+    part-copy-with-lead-end-2
+    copy-with-lead-requires
     same-length
     returns
     copy-pieces-requires

@@ -3,8 +3,8 @@ use Prim.Native.Nat.{ℕ, _/_}
 use mathlib.Core.Path.{_≡_, refl}
 use borrow.Author.Needs.{needs}
 use Rattle.format.specs.Grammar.Attributes.{Bits, eight, sixteen, thirtytwo}
-use Rattle.plane.proofs.copy_samples.Statement.{statement}
-use Rattle.plane.proofs.copy_samples.Tie as tie
+use Rattle.plane.proofs.component.copy_samples.Statement.{statement}
+use Rattle.plane.proofs.component.copy_samples.Tie as tie
 
 -- neither 8 nor 16 bits
 four : (b : ℕ) → Bits b → (b ≡ 8 → ⊥) → (b ≡ 16 → ⊥) → 4 ≡ b / 8

@@ -1,14 +1,14 @@
--- `copy_led`: the first bytes, and then the rest.
+-- `copy_with_lead`: the first bytes, and then the rest.
 use mathlib.Core.Path.{_≡_, refl, sym, _∙_}
 use Prim.Native.Nat.{_-_}
 use native.Mathlib.Omega.{arith}
 use lib.ListN.{length}
 use borrow.Rule.Slice.PartMut.{putMid, same-len-mid}
 use denote.Ref.{now}
-use Rattle.plane.proofs.Parts.{rest-all, led}
+use Rattle.plane.proofs.Parts.{rest-all, lead-copied}
 use borrow.Author.Needs.{needs}
-use Rattle.plane.proofs.copy.copy_led.Statement.{statement}
-use Rattle.plane.proofs.copy.copy_led.Tie as tie
+use Rattle.plane.proofs.copy.copy_with_lead.Statement.{statement}
+use Rattle.plane.proofs.copy.copy_with_lead.Tie as tie
 
 copy-bytes-requires : tie.Need-copy-bytes-requires
 copy-bytes-requires c κs = search needs
@@ -74,11 +74,11 @@ returns-2 c =
     let q = b .copy-bytes2 .last .1 .0 in
     let d = putMid 0 (a .lead - 0) (now (a .dst)) q in
     let long : length (now (a .src)) ≡ length d = s .pre ∙ sym (same-len-mid 0 (a .lead - 0) (now (a .dst)) q (b .copy-bytes2 .kept .1 .0)) in
-    let first = led (now (a .src)) (now (a .dst)) q (a .lead) (e .if1 .left) (s .pre) (b .copy-bytes2 .ensures) in
+    let first = lead-copied (now (a .src)) (now (a .dst)) q (a .lead) (e .if1 .left) (s .pre) (b .copy-bytes2 .ensures) in
     rest-all (now (a .src)) d (r .copy-run .last .1 .0) (a .lead) (length d) first (omega (arith, s .pre, e .if1 .left)) long refl (r .copy-run .ensures)
 
-pub copy-led-spec : {M : Type 1} → statement M
-copy-led-spec =
+pub copy-with-lead-spec : {M : Type 1} → statement M
+copy-with-lead-spec =
     tie.close
     (tie.spec
     copy-bytes-requires

@@ -2,8 +2,8 @@
 use native.Mathlib.Omega.{arith}
 use borrow.Author.Needs.{needs}
 use Rattle.plane.proofs.Samples.{sample-in, row-in, step-in, all-in}
-use Rattle.plane.proofs.gather_samples.Statement.{statement}
-use Rattle.plane.proofs.gather_samples.Tie as tie
+use Rattle.plane.proofs.component.gather_samples.Statement.{statement}
+use Rattle.plane.proofs.component.gather_samples.Tie as tie
 
 mul-at : tie.Need-mul-at
 mul-at c =

@@ -3,8 +3,8 @@ use native.Mathlib.Omega.{arith}
 use borrow.Author.Needs.{needs}
 use denote.Ref.{now}
 use Rattle.plane.proofs.Samples.{all-in, one-in, one-rows}
-use Rattle.plane.proofs.copy_rows.Statement.{statement}
-use Rattle.plane.proofs.copy_rows.Tie as tie
+use Rattle.plane.proofs.component.copy_rows.Statement.{statement}
+use Rattle.plane.proofs.component.copy_rows.Tie as tie
 
 mul-w : tie.Need-mul-w
 mul-w c = let s = c .before .before .before in omega (arith, one-in (s .pre .1) (s .pre .0))
