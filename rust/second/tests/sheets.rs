@@ -5,7 +5,7 @@ mod common;
 use common::*;
 use sample::parts::{self, Sizes};
 use second::refusal::*;
-use second::{read_sheet, Axis, Loop, Sheet, Summary};
+use second::{read_sheet, Sheet};
 
 const HEAD: usize = 186;
 
@@ -198,36 +198,6 @@ fn strips_are_planes() {
             assert_eq!(told, Ok((sizes(3, 2, bits), samples)));
         }
     }
-}
-
-/// "20, 21, 22, 5, 23, 4, 24, 26, 25": each step heals the first refusal of those that hold. 26 needs a file of 4 GB;
-/// rust/nd2 asks for it.
-#[test]
-fn order_of_writing() {
-    let file = file_of(SIZES, &[1, 2, 3, 4]);
-    let good = opened(&file);
-    let asked = |summary: &Summary, index| second::sheet(&file, summary, index, 0, 0, 0, &mut []);
-    let mut summary = good;
-    summary.map.len = 0;
-    summary.width = 1 << 32;
-    summary.stride = 1;
-    assert_eq!(asked(&summary, 1), SUMMARY);
-    summary.stride = 1 << 32;
-    assert_eq!(asked(&summary, 1), INDEX);
-    assert_eq!(asked(&summary, 0), CEILING);
-    summary.height = 1;
-    assert_eq!(asked(&summary, 0), MAP);
-    summary.map = good.map;
-    summary.depth = 1;
-    summary.loops[0] = Loop {
-        axis: Axis::P,
-        count: 2,
-    };
-    assert_eq!(asked(&summary, 1), NO_FRAME);
-    assert_eq!(asked(&summary, 0), FRAME_SHORT);
-    summary.width = 2;
-    summary.stride = 4;
-    assert_eq!(asked(&summary, 0), BUFFER);
 }
 
 #[test]
