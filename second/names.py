@@ -7,6 +7,7 @@ low one is a surrogate pair and stands for one code point (D75, D91). Any other 
 """
 
 EDGES = [0x0000, 0xD7FF, 0xD800, 0xDBFF, 0xDC00, 0xDFFF, 0xE000, 0xFFFD]
+KINDS = [0xD800, 0xDC00, 0xE000, 0xFFFD]
 
 
 def units_of(data):
@@ -41,20 +42,35 @@ def spelled(units):
 
 
 def show(units):
-    print("units" + spelled(units) + " lossy" + spelled(units_of(text(units).encode("utf-16-le"))))
+    print("units" + spelled(units) + " lossy" + spelled(replaced(units)))
 
 
 def show_part(data, at, n):
     show(units_of(data[at : at + 2 * n]))
 
 
+def replaced(units):
+    """The units that spell the code points."""
+    return units_of(text(units).encode("utf-16-le"))
+
+
+def answer(first, second):
+    """Whether two texts are the same, and how many units are compared to tell: none where their lengths differ, otherwise up to and with the first that
+    differs, or all."""
+    a, b = replaced(first), replaced(second)
+    compared = 0
+    if len(a) == len(b):
+        unlike = [i for i in range(len(a)) if a[i] != b[i]]
+        compared = unlike[0] + 1 if unlike else len(a)
+    return (" yes" if text(first) == text(second) else " no") + " after %d" % compared
+
+
 def pair(first, second):
-    same = text(first) == text(second)
-    print("first" + spelled(first) + " second" + spelled(second) + " same" + (" yes" if same else " no"))
+    print("first" + spelled(first) + " second" + spelled(second) + " same" + answer(first, second))
 
 
 def ask(units, name):
-    print("units" + spelled(units) + " is '" + name + "'" + (" yes" if text(units) == name else " no"))
+    print("units" + spelled(units) + " is '" + name + "'" + answer(utf16(name), units))
 
 
 A, B, C = 0x61, 0x62, 0x63
@@ -106,6 +122,14 @@ def lists():
                 show([a, b, c])
 
 
+def twos():
+    for a in KINDS:
+        for b in KINDS:
+            for c in KINDS:
+                for d in KINDS:
+                    pair([a, b], [c, d])
+
+
 def pairs():
     pair([], [])
     pair([], [0])
@@ -117,6 +141,10 @@ def pairs():
     pair([A, 0, B], [A])
     pair([A], [0x161])
     pair([A], [0x41])
+    pair(utf16("uiWidth"), utf16("uiWidth"))
+    pair(utf16("uiWidth"), utf16("uiCount"))
+    pair(utf16("uiWidth"), utf16("uiWidts"))
+    pair(utf16("uiWidth"), utf16("uiComp"))
     pair([HIGH], [FFFD])
     pair([FFFD], [LOW])
     pair([HIGH], [0xD800])
@@ -130,6 +158,8 @@ def pairs():
     pair([A, HIGH], [A, 0xDC00])
     pair([A, HIGH], [A, B])
     pair([HIGH, HIGH, LOW], [FFFD, HIGH, LOW])
+    pair([A, HIGH, LOW], [A, HIGH, LATER])
+    pair([A, HIGH, LOW], [A, HIGH, B])
 
 
 def asked():
@@ -150,5 +180,6 @@ def asked():
 
 
 lists()
+twos()
 pairs()
 asked()

@@ -1,8 +1,9 @@
 -- The change requests hold of the definitions. Assumes nothing.
-use Rattle.format.specs.Requests.{Sheets}
+use Rattle.format.specs.Requests.{Sheets, NameChecks}
 use Rattle.format.proofs.Sheets.{rule-is, sheet-only}
 use Rattle.format.proofs.SheetCalls.{write-number, write-accepted, write-refused, written, plane-written}
 use Rattle.format.proofs.SheetCalls.{read-number, read-accepted, read-refused, read-zero, read-taken, turned-away, read-back}
+use Rattle.format.proofs.Compared.{as-before, comparison-is, plain-name, looked-most, no-further}
 
 pub sheets : Sheets
 sheets = record {
@@ -20,4 +21,13 @@ sheets = record {
   read-taken = read-taken;
   turned-away = turned-away;
   read-back = read-back;
+}
+
+pub name-checks : NameChecks
+name-checks = record {
+  as-before = as-before;
+  comparison-is = comparison-is;
+  plain-name = plain-name;
+  looked-most = looked-most;
+  no-further = no-further;
 }

@@ -17,16 +17,16 @@ use Rattle.format.specs.declared.Entry.{Entry}
 
 -- ---- what the tests tell
 
-true-high : (u : ℕ) → highSurrogate u ≡ true → High u
+pub true-high : (u : ℕ) → highSurrogate u ≡ true → High u
 true-high u e = record { least = leb-true 0xD800 u (and-left _ _ e); most = ltb-true u 0xDC00 (and-right (leb 0xD800 u) _ e) }
 
-high-true : (u : ℕ) → High u → highSurrogate u ≡ true
+pub high-true : (u : ℕ) → High u → highSurrogate u ≡ true
 high-true u h = rw (le-leb 0xD800 u (h .least), lt-ltb u 0xDC00 (h .most)) refl
 
 true-low : (u : ℕ) → lowSurrogate u ≡ true → Low u
 true-low u e = record { least = leb-true 0xDC00 u (and-left _ _ e); most = ltb-true u 0xE000 (and-right (leb 0xDC00 u) _ e) }
 
-low-true : (u : ℕ) → Low u → lowSurrogate u ≡ true
+pub low-true : (u : ℕ) → Low u → lowSurrogate u ≡ true
 low-true u h = rw (le-leb 0xDC00 u (h .least), lt-ltb u 0xE000 (h .most)) refl
 
 -- a test that fails

@@ -10,6 +10,7 @@ pub mod Chunks
 pub mod Map
 pub mod Trees
 pub mod Text
+pub mod Comparison
 pub mod Values
 pub mod Numbers
 pub mod Attributes

@@ -23,6 +23,8 @@ pub mod Calibration
 pub mod Channels
 -- change request 2: a plane as a TIFF file
 pub mod Sheets
+-- change request 3: two names compared, with the count of units
+pub mod Comparison
 -- "The calls": the summary that they share, and each call's answer from its arguments alone
 pub mod Summary
 pub mod Calls

@@ -90,3 +90,9 @@ pub struct Channel {
     pub green: u64,
     pub blue: u64,
 }
+
+// What comparing two names tells: whether they are the same, and how many units were compared.
+pub struct Comparison {
+    pub same: bool,
+    pub units: usize,
+}

@@ -9,7 +9,7 @@ ghost use Rattle.lookup.specs.Table.{entryIn, Lies, Holds, Below, found,
 use crate::Found;
 use crate::entry::child_before;
 use crate::entry::entry_at;
-use name::name_is;
+use name::ascii::name_is;
 use name::same_name;
 
 // Whether entry i bears the name, of ASCII bytes.

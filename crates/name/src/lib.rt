@@ -1,98 +1,63 @@
-// UTF-16 names in a file: compared with an ASCII name and with each other, a lone surrogate as U+FFFD.
+// UTF-16 names in a file compared, a lone surrogate as U+FFFD. A comparison ends at the first unit that differs and says how many units it took;
+// names of unequal lengths are told apart with none.
 ghost use mathlib.Core.Path.{_≡_};
-ghost use Prim.Native.Nat.{_+_, _*_, _<_, _≤_};
-ghost use mathlib.Core.List.{_∷_};
+ghost use Prim.Native.Nat.{_+_, _*_, _≤_, _<_};
+ghost use lib.Dec.{eqb};
 ghost use lib.ListN.{length, getD};
 ghost use Rattle.format.specs.Bytes.{same};
-ghost use Rattle.format.specs.Text.{units, highSurrogate, lowSurrogate, replaced, lossy};
-use cursor::le2;
-use cursor::wide;
+ghost use Rattle.format.specs.Text.{units, lossy};
+ghost use Rattle.format.specs.Comparison.{comparedIn};
+ghost use Rattle.format.specs.Grammar.Comparison.{Reaches};
+use format::Comparison;
+use unit::lossy_unit;
+use unit::unit_at;
 
-fn high_surrogate(u: u64) -> bool
-    ensures { λ r. ⌜ r ≡ highSurrogate u ⌝ }
-{
-    (0xD800 <= u) & (u < 0xDC00)
-}
+pub mod ascii;
+pub mod unit;
 
-fn low_surrogate(u: u64) -> bool
-    ensures { λ r. ⌜ r ≡ lowSurrogate u ⌝ }
+// Whether unit i of both names is the same, each lone surrogate replaced. One below the surrogates is itself, and nothing else becomes it.
+fn same_unit(s: &[u8], at: usize, n: usize, from: usize, m: usize, i: usize) -> bool
+    requires { ⌜ (i < n) × (i < m) × Reaches (now s) at n (i + 1) × Reaches (now s) from m (i + 1) ⌝ }
+    ensures { λ r. ⌜ r ≡ eqb (getD (lossy (units n (now (s .entry)) at)) i 0) (getD (lossy (units m (now (s .entry)) from)) i 0) ⌝ }
 {
-    (0xDC00 <= u) & (u < 0xE000)
-}
-
-// What stands for the unit u between p and q: a surrogate stays only beside its partner.
-fn replace(p: u64, u: u64, q: u64) -> u64
-    ensures { λ r. ⌜ r ≡ replaced p u q ⌝ }
-{
-    if high_surrogate(u) {
-        if low_surrogate(q) { u } else { 0xFFFD }
-    } else if low_surrogate(u) {
-        if high_surrogate(p) { u } else { 0xFFFD }
-    } else {
-        u
-    }
-}
-
-// The unit before unit i of the n at `at`, and 0 before the first.
-fn unit_before(s: &[u8], at: usize, n: usize, i: usize) -> u64
-    requires { ⌜ (at + 2 * n ≤ length (now s)) × (i < n) ⌝ }
-    ensures { λ r. ⌜ r ≡ getD (0 ∷ units n (now (s .entry)) at) i 0 ⌝ }
-{
-    if i == 0 { 0 } else { le2(s, at + 2 * i - 2) }
-}
-
-// The unit after unit i of the n at `at`, and 0 after the last.
-fn unit_after(s: &[u8], at: usize, n: usize, i: usize) -> u64
-    requires { ⌜ (at + 2 * n ≤ length (now s)) × (i < n) ⌝ }
-    ensures { λ r. ⌜ r ≡ getD (units n (now (s .entry)) at) (i + 1) 0 ⌝ }
-{
-    if i + 1 < n { le2(s, at + 2 * i + 2) } else { 0 }
-}
-
-// Unit i of the name of n units at `at`, U+FFFD where it is a lone surrogate.
-pub fn lossy_unit(s: &[u8], at: usize, n: usize, i: usize) -> u64
-    requires { ⌜ (at + 2 * n ≤ length (now s)) × (i < n) ⌝ }
-    ensures { λ r. ⌜ r ≡ getD (lossy (units n (now (s .entry)) at)) i 0 ⌝ }
-{
-    let u = le2(s, at + 2 * i);
+    let u = unit_at(s, at, i);
     if u < 0xD800 {
-        return u;
+        return u == unit_at(s, from, i);
     }
-    replace(unit_before(s, at, n, i), u, unit_after(s, at, n, i))
+    lossy_unit(s, at, n, i) == lossy_unit(s, from, m, i)
 }
 
-// Whether the name of n units at `at` is this one, of ASCII bytes.
-pub fn name_is(s: &[u8], at: usize, n: usize, name: &[u8]) -> bool
-    requires { ⌜ at + 2 * n ≤ length (now s) ⌝ }
-    ensures { λ r. ⌜ r ≡ same (now (name .entry)) (lossy (units n (now (s .entry)) at)) ⌝ }
+// The name of n units at `at` and the one of m units at `from` compared.
+pub fn compare_names(s: &[u8], at: usize, n: usize, from: usize, m: usize) -> Comparison
+    requires { ⌜ Reaches (now s) at n (comparedIn (now s) at n from m .units) × Reaches (now s) from m (comparedIn (now s) at n from m .units) ⌝ }
+    ensures { λ r. ⌜ r ≡ comparedIn (now (s .entry)) at n from m ⌝ }
 {
-    if name.len() != n {
-        return false;
+    if n != m {
+        return Comparison {
+            same: false,
+            units: 0,
+        };
     }
     let mut i = 0;
     while i < n {
-        if wide(name[i]) != lossy_unit(s, at, n, i) {
-            return false;
+        if !same_unit(s, at, n, from, m, i) {
+            return Comparison {
+                same: false,
+                units: i + 1,
+            };
         }
         i += 1;
     }
-    true
+    Comparison {
+        same: true,
+        units: n,
+    }
 }
 
-// Whether the name of n units at `at` and the one of n2 units at `at2` are the same.
-pub fn same_name(s: &[u8], at: usize, n: usize, at2: usize, n2: usize) -> bool
-    requires { ⌜ (at + 2 * n ≤ length (now s)) × (at2 + 2 * n2 ≤ length (now s)) ⌝ }
-    ensures { λ r. ⌜ r ≡ same (lossy (units n (now (s .entry)) at)) (lossy (units n2 (now (s .entry)) at2)) ⌝ }
+// Whether the name of n units at `at` and the one of m units at `from` are the same.
+pub fn same_name(s: &[u8], at: usize, n: usize, from: usize, m: usize) -> bool
+    requires { ⌜ (at + 2 * n ≤ length (now s)) × (from + 2 * m ≤ length (now s)) ⌝ }
+    ensures { λ r. ⌜ r ≡ same (lossy (units n (now (s .entry)) at)) (lossy (units m (now (s .entry)) from)) ⌝ }
 {
-    if n != n2 {
-        return false;
-    }
-    let mut i = 0;
-    while i < n {
-        if lossy_unit(s, at, n, i) != lossy_unit(s, at2, n2, i) {
-            return false;
-        }
-        i += 1;
-    }
-    true
+    compare_names(s, at, n, from, m).same
 }

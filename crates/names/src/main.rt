@@ -1,12 +1,13 @@
-// Prints what is made of names in UTF-16: their units with each lone surrogate replaced, which of two names are the same, and which are
-// an ASCII name. second/names.py prints the same lines from the Unicode standard.
+// Prints what is made of names in UTF-16: their units with each lone surrogate replaced, which of two names are the same, which are an
+// ASCII name, and how many units were compared to tell. second/names.py prints the same lines from the Unicode standard.
 ghost use Prim.Native.Nat.{_+_, _*_, _≤_, _<_};
 ghost use lib.ListN.{length};
 use cursor::le2;
+use format::Comparison;
 use libc::STDOUT_FILENO;
-use name::lossy_unit;
-use name::name_is;
-use name::same_name;
+use name::ascii::compare_ascii;
+use name::compare_names;
+use name::unit::lossy_unit;
 
 fn put(text: &[u8]) {
     io::write_all(STDOUT_FILENO, text);
@@ -39,12 +40,14 @@ fn put_lossy(s: &[u8], at: usize, n: usize)
     }
 }
 
-fn put_answer(yes: bool) {
-    if yes {
-        put(b" yes\n");
+fn put_answer(c: Comparison) {
+    if c.same {
+        put(b" yes after ");
     } else {
-        put(b" no\n");
+        put(b" no after ");
     }
+    io::print_decimal(STDOUT_FILENO, c.units as u64);
+    put(b"\n");
 }
 
 // A line for the name of n units at `at`.
@@ -75,7 +78,7 @@ fn pair(s: &[u8], n: usize)
     put(b" second");
     put_units(s, at, rest);
     put(b" same");
-    put_answer(same_name(s, 0, n, at, rest));
+    put_answer(compare_names(s, 0, n, at, rest));
 }
 
 // A line for a name that fills the slice and an ASCII name.
@@ -86,7 +89,7 @@ fn ask(s: &[u8], name: &[u8]) {
     put(b" is '");
     put(name);
     put(b"'");
-    put_answer(name_is(s, 0, n, name));
+    put_answer(compare_ascii(s, 0, n, name));
 }
 
 // Names with no lone surrogate.
@@ -156,6 +159,33 @@ fn threes() {
     }
 }
 
+// Two names of two units, by their numbers in d800 dc00 e000 fffd: each kind, and what replaces.
+fn two_and_two(i: usize, j: usize, k: usize, l: usize)
+    requires { ⌜ (i < 4) × (j < 4) × (k < 4) × (l < 4) ⌝ }
+{
+    let kinds = b"\x00\xD8\x00\xDC\x00\xE0\xFD\xFF";
+    let s = [
+        kinds[2 * i],
+        kinds[2 * i + 1],
+        kinds[2 * j],
+        kinds[2 * j + 1],
+        kinds[2 * k],
+        kinds[2 * k + 1],
+        kinds[2 * l],
+        kinds[2 * l + 1],
+    ];
+    pair(&s, 2);
+}
+
+// Every two of them.
+fn twos() {
+    let mut m: usize = 0;
+    while m < 256 {
+        two_and_two(m / 64, m / 16 % 4, m / 4 % 4, m % 4);
+        m += 1;
+    }
+}
+
 // Names that are the same, and names that differ.
 fn pairs() {
     pair(b"", 0);
@@ -168,6 +198,10 @@ fn pairs() {
     pair(b"a\0\0\0b\0a\0", 3);
     pair(b"a\0a\x01", 1);
     pair(b"a\0A\0", 1);
+    pair(b"u\0i\0W\0i\0d\0t\0h\0u\0i\0W\0i\0d\0t\0h\0", 7);
+    pair(b"u\0i\0W\0i\0d\0t\0h\0u\0i\0C\0o\0u\0n\0t\0", 7);
+    pair(b"u\0i\0W\0i\0d\0t\0h\0u\0i\0W\0i\0d\0t\0s\0", 7);
+    pair(b"u\0i\0W\0i\0d\0t\0h\0u\0i\0C\0o\0m\0p\0", 7);
 }
 
 // The same of names with surrogates.
@@ -185,6 +219,8 @@ fn lone_pairs() {
     pair(b"a\0\x3D\xD8a\0\x00\xDC", 2);
     pair(b"a\0\x3D\xD8a\0b\0", 2);
     pair(b"\x3D\xD8\x3D\xD8\x00\xDE\xFD\xFF\x3D\xD8\x00\xDE", 3);
+    pair(b"a\0\x3D\xD8\x00\xDEa\0\x3D\xD8\x01\xDE", 3);
+    pair(b"a\0\x3D\xD8\x00\xDEa\0\x3D\xD8b\0", 3);
 }
 
 // Names and ASCII names.
@@ -212,6 +248,7 @@ fn main() {
     lone();
     within();
     threes();
+    twos();
     pairs();
     lone_pairs();
     ascii();

@@ -97,6 +97,7 @@ impl<'f> Case<'f> {
                 .as_ref()
                 .and_then(|o| turn(move || assert!(o.plane(at) > 0))),
             None,
+            None,
         ];
         race_in_a_row(in_a_row, repetitions, 1, turns)
     }
@@ -110,6 +111,7 @@ impl<'f> Case<'f> {
             turn(move || assert!(black_box(Reader::open(file)).is_ok())),
             turn(move || assert!(black_box(second_open(file)).is_some())),
             original.and_then(|o| turn(move || assert!(black_box(o.open(file)).is_some()))),
+            None,
             None,
         ];
         race(repetitions, batch, turns)
@@ -133,6 +135,7 @@ impl<'f> Case<'f> {
             self.original.as_ref().and_then(|o| {
                 turn(move || assert_eq!(o.register(black_box(&mut original)), bytes))
             }),
+            None,
             None,
         ];
         race(repetitions, batch, turns)
@@ -284,6 +287,7 @@ fn all_planes(case: &Case, original: Option<Original>, repetitions: u32) -> Best
                 places.iter().for_each(|at| assert!(opened.plane(*at) > 0));
             })
         }),
+        None,
         None,
     ];
     race(repetitions, 1, turns)

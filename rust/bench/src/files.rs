@@ -60,3 +60,62 @@ pub fn deep() -> Vec<u8> {
     file.add(&parts::frame_name(0), &parts::frame(&[7; 64]));
     file.finish()
 }
+
+/// The one unit in which the names of a level differ, of eight.
+#[derive(Clone, Copy)]
+pub enum Units {
+    First,
+    Last,
+    /// The last, where the others stand above the surrogates.
+    LastAbove,
+}
+
+/// Every name has a unit of its own from here on, below the surrogates.
+const OWN: u16 = 0x100;
+/// So many names have one.
+pub const MOST_NAMES: u32 = 50_000;
+
+/// The units of name number i, and their zero.
+fn name_of(i: usize, units: Units) -> Vec<u16> {
+    let own = OWN + i as u16;
+    match units {
+        Units::First => [&[own], &[0x61; 7][..], &[0]].concat(),
+        Units::Last => [&[0x61; 7][..], &[own, 0]].concat(),
+        Units::LastAbove => [&[0xF900; 7][..], &[own, 0]].concat(),
+    }
+}
+
+fn renamed(record: Record, name: Vec<u16>) -> Record {
+    Record { name, ..record }
+}
+
+/// A file whose points are so many named entries, which opening counts.
+pub fn counted_names(names: usize, units: Units) -> Vec<u8> {
+    let point = |i| renamed(u32("", 0), name_of(i, units));
+    let points = vec![level("Points", (0..names).map(point).collect())];
+    needed(Sizes::packed(4, 4, 1, 16), &[(parts::POINTS, points)]).finish()
+}
+
+/// A file whose loop is followed by so many named entries, levels or not, through which opening walks.
+pub fn walked_names(names: usize, levels: bool) -> Vec<u8> {
+    let entry = |i| {
+        let record = if levels {
+            level("", vec![])
+        } else {
+            u32("", 0)
+        };
+        renamed(record, name_of(i, Units::First))
+    };
+    let loops = vec![
+        u32("eType", parts::TIME),
+        level("uLoopPars", parts::counted(1)),
+        level("ppNextLevelEx", (0..names).map(entry).collect()),
+    ];
+    let mut file = Nd2::new();
+    file.add(
+        parts::ATTRIBUTES,
+        &parts::attributes(Sizes::packed(4, 4, 1, 16)).encode(),
+    );
+    file.add(parts::EXPERIMENT, &level("SLxExperiment", loops).encode());
+    file.finish()
+}

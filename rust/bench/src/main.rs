@@ -1,21 +1,26 @@
-//! Times the proved reader beside memcpy, the second implementation and the original.
+//! Times the proved reader beside memcpy, the second implementation, the original and an earlier build.
 //!
-//!     bench [ORIGINAL_FOLDER] [--only planes|sheets|roller|map] [--side N] [--roller-side N] [--entries N] [--repetitions N]
+//!     bench [ORIGINAL_FOLDER] [--before FOLDER] [--only planes|sheets|roller|map|names] [--side N] [--roller-side N]
+//!           [--entries N] [--names N] [--repetitions N]
 //!
 //! ORIGINAL_FOLDER has the original's nd2_reader.rs, calibration.rs, types.rs and guard.rs; without it the original is
-//! left out. Planes have N x N samples (--side, 2048); those of the roller, of which there are 528, N x N too
+//! left out. The folder of --before has the libcapi.a of an earlier build, which opens the levels of names too. Planes have N x N samples (--side, 2048); those of the roller, of which there are 528, N x N too
 //! (--roller-side, 512: with 2048 the roller has 4.4 GB and as much memory is needed). All contenders take turns in this one
 //! process, and the best time of each counts. The exit status is 1 where a target is missed; one
 //! that needs the original, where that is left out, is told as not run.
 
+mod before;
 mod cases;
 mod files;
+mod library;
 mod memory;
+mod names;
 mod original;
 mod sheets;
 mod table;
 mod timing;
 
+use names::Others;
 use nd2::raw::read_plane;
 use nd2::{Reader, Sheet};
 use original::Original;
@@ -27,7 +32,8 @@ use std::process::ExitCode;
 use table::{Row, Verdict};
 
 const USAGE: &str = "\
-usage: bench [ORIGINAL_FOLDER] [--only planes|sheets|roller|map] [--side N] [--roller-side N] [--entries N] [--repetitions N]";
+usage: bench [ORIGINAL_FOLDER] [--before FOLDER] [--only planes|sheets|roller|map|names] [--side N] [--roller-side N]
+             [--entries N] [--names N] [--repetitions N]";
 
 /// Components and bits of the planes that are written as sheets.
 const SHEETS: [(u64, u64); 6] = [(1, 8), (1, 16), (1, 32), (3, 8), (3, 16), (3, 32)];
@@ -41,6 +47,8 @@ struct Options {
     side: u64,
     roller_side: u32,
     entries: usize,
+    names: usize,
+    before: Option<PathBuf>,
     repetitions: u32,
 }
 
@@ -52,6 +60,8 @@ fn options() -> Option<Options> {
         side: 2048,
         roller_side: 512,
         entries: 2_000_000,
+        names: 10_000,
+        before: None,
         repetitions: 5,
     };
     while let Some(argument) = arguments.next() {
@@ -69,6 +79,10 @@ fn options() -> Option<Options> {
             Some("--entries") => {
                 options.entries = value().filter(|n| ENTRIES.contains(n))? as usize
             }
+            Some("--names") => {
+                options.names = value().filter(|n| *n <= files::MOST_NAMES)? as usize
+            }
+            Some("--before") => options.before = Some(PathBuf::from(arguments.next()?)),
             Some("--repetitions") => options.repetitions = value()?,
             Some("--only") => options.only = Some(group(arguments.next()?.to_str()?)?),
             Some(option) if option.starts_with('-') => return None,
@@ -80,7 +94,7 @@ fn options() -> Option<Options> {
 }
 
 fn group(name: &str) -> Option<String> {
-    ["planes", "sheets", "roller", "map"]
+    ["planes", "sheets", "roller", "map", "names"]
         .contains(&name)
         .then(|| name.to_string())
 }
@@ -100,23 +114,34 @@ fn main() -> ExitCode {
         eprintln!("{USAGE}");
         return ExitCode::from(2);
     };
-    let original = match options.original.as_deref().map(original::load).transpose() {
-        Ok(original) => original,
+    let others = match others(&options) {
+        Ok(others) => others,
         Err(error) => {
             eprintln!("bench: {error}");
             return ExitCode::from(2);
         }
     };
     // memory first, while the process has none to give again
-    let memory = Memory::measured(options.side, original);
-    let verdicts = times(&options, original);
+    let memory = Memory::measured(options.side, others.original);
+    let verdicts = times(&options, others);
     memory.print();
     ExitCode::from(verdicts.contains(&Verdict::Missed) as u8)
 }
 
+/// The contenders that are loaded.
+fn others(options: &Options) -> io::Result<Others> {
+    let original = options.original.as_deref().map(original::load);
+    let before = options.before.as_deref().map(before::load);
+    Ok(Others {
+        original: original.transpose()?,
+        before: before.transpose()?,
+    })
+}
+
 /// Prints the table, and how many of its targets are met, missed and not run; what became of each target.
-fn times(options: &Options, original: Option<Original>) -> Vec<Verdict> {
+fn times(options: &Options, others: Others) -> Vec<Verdict> {
     table::head();
+    let original = others.original;
     let repetitions = options.repetitions;
     let mut verdicts = Vec::new();
     let mut print = |rows: Vec<Row>| verdicts.extend(rows.iter().filter_map(table::print));
@@ -137,8 +162,11 @@ fn times(options: &Options, original: Option<Original>) -> Vec<Verdict> {
     if options.asks_for("map") {
         print(cases::large_map(options.entries, original, repetitions));
     }
+    if options.asks_for("names") {
+        print(names::rows(options.names, others, repetitions));
+    }
     println!();
-    println!("'bytes' are what memcpy copies: those of the planes, otherwise those of the map. The original has no register:");
+    println!("'bytes' are what memcpy copies: those of the planes, of the map, of the file with names. The original has no register:");
     println!("its map is asked for each frame; nor has it sheets: these stand beside the proved reader's plane.");
     let so_many = |which| verdicts.iter().filter(|&&verdict| verdict == which).count();
     let [met, missed] = [Verdict::Met, Verdict::Missed].map(so_many);

@@ -3,12 +3,12 @@
 //! Its four files are copied as they are into a folder of their own; after the reader's text stands one line that names a
 //! child module, through which what is private there is reached.
 
-use std::ffi::{c_char, c_int, c_void, CString};
+use crate::library::{Library, Symbol};
+use std::ffi::c_void;
 use std::fs;
 use std::io;
 use std::marker::PhantomData;
 use std::mem::transmute;
-use std::os::unix::ffi::OsStrExt;
 use std::path::{Path, PathBuf};
 use std::process::Command;
 
@@ -21,14 +21,7 @@ const DRIVER: [(&str, &str); 5] = [
     ("stand_ins.rs", include_str!("../driver/stand_ins.rs")),
     ("error.rs", include_str!("../../compare/driver/error.rs")),
 ];
-const RTLD_NOW: c_int = 2;
 
-extern "C" {
-    fn dlopen(path: *const c_char, flags: c_int) -> *mut c_void;
-    fn dlsym(library: *mut c_void, name: *const c_char) -> *mut c_void;
-}
-
-type Symbol = *mut c_void;
 type Handle = *mut c_void;
 type Open = unsafe extern "C" fn(*const u8, usize) -> Handle;
 type Close = unsafe extern "C" fn(Handle);
@@ -89,14 +82,10 @@ fn build(source: &Path, folder: &Path) -> io::Result<PathBuf> {
 
 impl Original {
     fn load(library: &Path) -> io::Result<Original> {
-        let path = CString::new(library.as_os_str().as_bytes())?;
         // SAFETY: the library was just built from `driver`, whose functions have the types that are given here.
         unsafe {
-            let library = dlopen(path.as_ptr(), RTLD_NOW);
-            if library.is_null() {
-                return Err(io::Error::other("the original cannot be loaded"));
-            }
-            let find = |name| symbol(library, name);
+            let library = Library::load(library)?;
+            let find = |name| library.symbol(name);
             Ok(Original {
                 open: transmute::<Symbol, Open>(find("original_open")?),
                 close: transmute::<Symbol, Close>(find("original_close")?),
@@ -116,17 +105,6 @@ impl Original {
             handle,
             file: PhantomData,
         })
-    }
-}
-
-/// # Safety
-///
-/// `library` is a loaded library.
-unsafe fn symbol(library: *mut c_void, name: &str) -> io::Result<Symbol> {
-    let found = dlsym(library, CString::new(name)?.as_ptr());
-    match found.is_null() {
-        true => Err(io::Error::other(format!("the original has no {name}"))),
-        false => Ok(found),
     }
 }
 

@@ -90,13 +90,13 @@ impl Case<'_> {
             lent.borrow_mut().fill(1);
         };
         let memcpy = turn(move || copied(source, &mut copy));
-        let turns = [memcpy, turn(sheet), None, None, turn(plane)];
+        let turns = [memcpy, turn(sheet), None, None, turn(plane), None];
         let mut best = race_after(before, repetitions, turns);
         let second = || assert_eq!(self.second_sheet(at, black_box(&mut lent.borrow_mut())), 0);
         let alone = race(
             repetitions.div_ceil(8),
             1,
-            [None, None, turn(second), None, None],
+            [None, None, turn(second), None, None, None],
         );
         best[Who::Second as usize] = alone[Who::Second as usize];
         best
@@ -124,6 +124,7 @@ impl Case<'_> {
                 )
             }),
             turn(move || assert!(second::read_sheet(sheet, black_box(&mut second)).is_ok())),
+            None,
             None,
             None,
         ];

@@ -62,6 +62,7 @@ pub fn name(who: Who) -> &'static str {
         Who::Second => "second",
         Who::Original => "original",
         Who::Plane => "plane",
+        Who::Before => "before",
     }
 }
 
@@ -84,8 +85,8 @@ pub fn head() {
     print!("{:46} {:>12}", "", "bytes");
     ALL.iter().for_each(|who| print!(" {:>9}", name(*who)));
     println!(
-        "  {:>8} {:>8} {:>9} {:>7}  target",
-        "/memcpy", "/second", "/original", "/plane"
+        "  {:>8} {:>8} {:>9} {:>7} {:>7}  target",
+        "/memcpy", "/second", "/original", "/plane", "/before"
     );
 }
 
@@ -96,11 +97,12 @@ pub fn print(row: &Row) -> Option<Verdict> {
         .iter()
         .for_each(|best| print!(" {:>9}", milliseconds(*best)));
     println!(
-        "  {:>8} {:>8} {:>9} {:>7}  {}",
+        "  {:>8} {:>8} {:>9} {:>7} {:>7}  {}",
         shown(row.ratio(Who::Memcpy)),
         shown(row.ratio(Who::Second)),
         shown(row.ratio(Who::Original)),
         shown(row.ratio(Who::Plane)),
+        shown(row.ratio(Who::Before)),
         row.told(),
     );
     row.verdict()
