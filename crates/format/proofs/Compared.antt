@@ -175,13 +175,9 @@ module _ (name s : List ℕ) (at n : ℕ) where
       → (getD name i 0 ≡ getD (lossy (units n s at)) i 0 → ⊥) → comparedWith name s at n ≡ differ (i + 1)
   with-differs i e h f d = comparison-differs name (lossy (units n s at)) i (e ∙ sym (length-name n s at)) (rw e h) f d
 
-  -- the first unit that is not known to be alike is compared, and lies in the bytes with those before it
-  pub with-next : (i : ℕ) → length name ≡ n → i < n → Alike name (lossy (units n s at)) i → at + 2 * comparedWith name s at n .units ≤ length s
-      → at + 2 * i + 2 ≤ length s
-  with-next i e h f g = omega (arith, comparison-next name (lossy (units n s at)) i (e ∙ sym (length-name n s at)) (rw e h) f)
-
-  pub with-inside : at + 2 * n ≤ length s → at + 2 * comparedWith name s at n .units ≤ length s
-  with-inside g = omega (arith, comparison-most name (lossy (units n s at)) .1, length-name n s at)
+  -- the first unit that is not known to be alike is compared
+  pub with-next : (i : ℕ) → length name ≡ n → i < n → Alike name (lossy (units n s at)) i → i < comparedWith name s at n .units
+  with-next i e h f = omega (arith, comparison-next name (lossy (units n s at)) i (e ∙ sym (length-name n s at)) (rw e h) f)
 
 pub as-before : (a b : List ℕ) → compared a b .same ≡ same (lossy a) (lossy b)
 unfolding compared

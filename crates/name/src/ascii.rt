@@ -5,13 +5,14 @@ ghost use lib.ListN.{length};
 ghost use Rattle.format.specs.Bytes.{same};
 ghost use Rattle.format.specs.Text.{units, lossy};
 ghost use Rattle.format.specs.Comparison.{comparedWith};
+ghost use Rattle.format.specs.Grammar.Comparison.{Spans};
 use crate::unit::unit_at;
 use cursor::wide;
 use format::Comparison;
 
 // The name of n units at `at` and a name of ASCII bytes compared. A byte is no surrogate and not U+FFFD, so a unit equals it as it stands or not at all.
 pub fn compare_ascii(s: &[u8], at: usize, n: usize, name: &[u8]) -> Comparison
-    requires { ⌜ at + 2 * comparedWith (now name) (now s) at n .units ≤ length (now s) ⌝ }
+    requires { ⌜ Spans (now s) at n (comparedWith (now name) (now s) at n .units) ⌝ }
     ensures { λ r. ⌜ r ≡ comparedWith (now (name .entry)) (now (s .entry)) at n ⌝ }
 {
     if name.len() != n {

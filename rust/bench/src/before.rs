@@ -4,7 +4,7 @@ use crate::library::{Library, Symbol};
 use std::fs;
 use std::io;
 use std::mem::transmute;
-use std::path::{Path, PathBuf};
+use std::path::Path;
 use std::process::Command;
 
 type Open = unsafe extern "C" fn(*const u8, usize, *mut u8, usize, *mut u8, usize) -> u32;
@@ -22,7 +22,10 @@ pub fn load(folder: &Path) -> io::Result<Before> {
     loaded
 }
 
-fn link(archive: &Path, linked: &PathBuf) -> io::Result<()> {
+fn link(archive: &Path, linked: &Path) -> io::Result<()> {
+    if !archive.is_file() {
+        return Err(io::Error::other(format!("{archive:?} is not there")));
+    }
     let status = Command::new("cc")
         .args(["-shared", "-Wl,-Bsymbolic", "-Wl,--whole-archive"])
         .arg(archive)

@@ -7,6 +7,7 @@ use crate::original::Original;
 use crate::table::Row;
 use crate::timing::{race, turn, Best};
 use nd2::raw::{self, ENTRY_BYTES, SUMMARY_BYTES};
+use nd2::Reader;
 use std::hint::black_box;
 
 /// Entries beside those of the level.
@@ -19,10 +20,11 @@ pub struct Others {
     pub before: Option<Before>,
 }
 
-/// A file with a level of `names` entries.
+/// A file with a level of `names` entries, and the frames that its loops make.
 struct Names<'f> {
     file: &'f [u8],
     names: usize,
+    frames: u64,
 }
 
 impl Names<'_> {
@@ -30,8 +32,10 @@ impl Names<'_> {
         vec![1; (self.names + OTHERS) * ENTRY_BYTES]
     }
 
-    /// Asserts that all open the file to the same summary.
+    /// Asserts that all open the file, with the frames that it has, and the earlier build to the very same summary.
     fn agree(&self, others: Others) {
+        let opened = Reader::open(self.file).expect("it opens");
+        assert_eq!(opened.summary().frames(), self.frames);
         let (mut table, mut ours, mut theirs) =
             (self.table(), [1; SUMMARY_BYTES], [2; SUMMARY_BYTES]);
         assert_eq!(raw::open(self.file, &mut table, &mut ours), 0);
@@ -72,23 +76,24 @@ impl Names<'_> {
 
 /// Counting and walking a level of so many names.
 pub fn rows(names: usize, others: Others, repetitions: u32) -> Vec<Row> {
-    let row = |what: String, file: Vec<u8>| Row {
+    let row = |what: String, file: &[u8], frames| Row {
         what,
         bytes: file.len(),
-        best: Names { file: &file, names }.open(others, repetitions),
+        best: Names {
+            file,
+            names,
+            frames,
+        }
+        .open(others, repetitions),
         target: None,
     };
     let counted = |how: &str, units| {
-        row(
-            format!("count {names} names, {how}"),
-            files::counted_names(names, units),
-        )
+        let file = files::counted_names(names, units);
+        row(format!("count {names} names, {how}"), &file, names as u64)
     };
     let walked = |how: &str, levels| {
-        row(
-            format!("walk {names} names, {how}"),
-            files::walked_names(names, levels),
-        )
+        let file = files::walked_names(names, levels);
+        row(format!("walk {names} names, {how}"), &file, 1)
     };
     vec![
         counted("first units differ", Units::First),

@@ -1,5 +1,7 @@
 //! The program runs through on small files. Whether small files meet the targets is not looked at.
 
+use std::env;
+use std::path::{Path, PathBuf};
 use std::process::{Command, Output};
 
 fn bench(words: &[&str]) -> Output {
@@ -9,7 +11,7 @@ fn bench(words: &[&str]) -> Output {
 
 #[test]
 fn every_case_is_in_the_table() {
-    let small = "--side 16 --roller-side 4 --entries 100 --repetitions 1";
+    let small = "--side 16 --roller-side 4 --entries 100 --names 20 --repetitions 1";
     let words: Vec<&str> = small.split(' ').collect();
     let output = bench(&words);
     let told = String::from_utf8(output.stdout).unwrap();
@@ -29,6 +31,11 @@ fn every_case_is_in_the_table() {
         "open, then all 528 planes",
         "open a map of 100 entries",
         "register of 98 frames",
+        "count 20 names, first units differ",
+        "count 20 names, last units differ",
+        "count 20 names, last, all above U+E000",
+        "walk 20 names, none a level",
+        "walk 20 names, each a level",
         "0.5 x original: not run",
         " missed, 4 not run (they need the original).",
         "bytes in the eight calls, on a tree of 64 levels",
@@ -44,6 +51,8 @@ fn wrong_words_give_the_usage() {
         &["--side"],
         &["--side", "0"],
         &["--only", "all"],
+        &["--names", "50001"],
+        &["--before"],
         &["a", "b"],
     ] {
         let output = bench(words);
@@ -54,11 +63,39 @@ fn wrong_words_give_the_usage() {
     }
 }
 
+/// The folder that this build's library was linked from.
+fn library_folder() -> PathBuf {
+    let root = Path::new(env!("CARGO_MANIFEST_DIR")).join("../..");
+    env::var_os("ND2_STATICLIB_DIR").map_or(root.join("target/staticlib"), PathBuf::from)
+}
+
 #[test]
-fn a_folder_without_the_original_is_told() {
-    let output = bench(&["/no/such/folder"]);
-    assert_eq!(output.status.code(), Some(2));
-    assert!(String::from_utf8(output.stderr)
-        .unwrap()
-        .starts_with("bench: "));
+fn an_earlier_build_takes_its_turns() {
+    let folder = library_folder();
+    let folder = folder.to_str().unwrap();
+    let words = ["--only", "names", "--names", "20", "--repetitions", "1"];
+    let alone = bench(&words);
+    let beside = bench(&[&words[..], &["--before", folder]].concat());
+    // the columns of milliseconds and of ratios
+    for (output, known) in [(alone, false), (beside, true)] {
+        let told = String::from_utf8(output.stdout).unwrap();
+        let row = told.lines().find(|line| line.starts_with("count 20 names"));
+        let columns: Vec<&str> = row.unwrap()[46..].split_whitespace().collect();
+        assert_eq!(columns.len(), 12, "{told}");
+        assert_eq!(
+            [columns[6] != "-", columns[11] != "-"],
+            [known; 2],
+            "{told}"
+        );
+    }
+}
+
+#[test]
+fn a_folder_without_what_it_should_have_is_told() {
+    for words in [&["/no/such/folder"][..], &["--before", "/no/such/folder"]] {
+        let output = bench(words);
+        assert_eq!(output.status.code(), Some(2));
+        let told = String::from_utf8(output.stderr).unwrap();
+        assert!(told.starts_with("bench: "), "{told}");
+    }
 }

@@ -31,3 +31,7 @@ pub data Looked (a : List ℕ) (c : ℕ) : ℕ → Type 0 where
 -- those of the n units at `at` lie in the bytes s
 abbrev pub Reaches : List ℕ → ℕ → ℕ → ℕ → Type 0
 Reaches s at n c = (k : ℕ) → k < n → Looked (units n s at) c k → at + 2 * k + 2 ≤ length s
+
+-- the first c of them do: all that is looked at where the other name has no surrogate
+abbrev pub Spans : List ℕ → ℕ → ℕ → ℕ → Type 0
+Spans s at n c = (k : ℕ) → k < n → k < c → at + 2 * k + 2 ≤ length s

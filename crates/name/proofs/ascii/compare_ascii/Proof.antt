@@ -32,7 +32,7 @@ unit-at-requires : tie.Need-unit-at-requires Inv-loop μ-loop
 unit-at-requires c κs =
     let l = c .before .before in
     let start = l .before .before in
-    with-next _ _ _ _ _ (start .if1 .left) (l .loop-test .taken) (l .before .loop .inv .1) (start .before .before .before .pre)
+    start .before .before .before .pre _ (l .loop-test .taken) (with-next _ _ _ _ _ (start .if1 .left) (l .loop-test .taken) (l .before .loop .inv .1))
 
 add-t13 : tie.Need-add-t13 Inv-loop μ-loop
 add-t13 c = search needs
