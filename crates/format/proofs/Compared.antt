@@ -320,6 +320,9 @@ no-further a b a′ b′ p q f g = go (finding (lossy a) (lossy b))
     across : (i : ℕ) → i ≤ c → Alike (lossy a) (lossy b) i → Alike (lossy a′) (lossy b′) i
     across i h e k l = x k (omega arith) ∙ (e k l ∙ sym (y k (omega arith)))
 
+    apart : (i : ℕ) → i + 1 ≤ c → (getD (lossy a) i 0 ≡ getD (lossy b) i 0 → ⊥) → getD (lossy a′) i 0 ≡ getD (lossy b′) i 0 → ⊥
+    apart i h d z = d (sym (x i (omega arith)) ∙ (z ∙ y i (omega arith)))
+
     go : Found (lossy a) (lossy b) → comparison (lossy a′) (lossy b′) ≡ comparison (lossy a) (lossy b)
     go (lengths d) = comparison-lengths (lossy a′) (lossy b′) (λ e. d (sym m ∙ (e ∙ n))) ∙ sym (comparison-lengths (lossy a) (lossy b) d)
     go (all e h) =
@@ -329,7 +332,7 @@ no-further a b a′ b′ p q f g = go (finding (lossy a) (lossy b))
     go (first i e l h d) =
         let u = comparison-differs (lossy a) (lossy b) i e l h d in
         let w = comparison-next (lossy a) (lossy b) i e l h in
-        comparison-differs (lossy a′) (lossy b′) i (m ∙ (e ∙ sym n)) (rw m l) (across i (omega (arith, w)) h) (λ z. d (sym (x i (omega (arith, w))) ∙ (z ∙ y i (omega (arith, w))))) ∙ sym u
+        comparison-differs (lossy a′) (lossy b′) i (m ∙ (e ∙ sym n)) (rw m l) (across i (omega (arith, w)) h) (apart i w d) ∙ sym u
 
 -- ---- what has to lie in the bytes
 
