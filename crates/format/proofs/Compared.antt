@@ -12,13 +12,13 @@ use lib.Seq.{ext-getD}
 use borrow.Author.Count.{below-more}
 use borrow.Author.Tests.{eqb-true, eqb-false, eq-eqb, ne-eqb}
 use Rattle.format.specs.Bytes.{leAt, same}
-use Rattle.format.specs.Text.{units, highSurrogate, replaced, lossy}
-use Rattle.format.specs.Comparison.{commonUnits, differ, alike, comparison, compared, comparedIn, comparedWith}
+use Rattle.format.specs.Text.{highSurrogate, replaced, lossy}
+use Rattle.format.specs.Comparison.{commonUnits, differ, alike, comparison, compared}
 use Rattle.format.specs.Grammar.Text.{High}
 use Rattle.format.specs.Grammar.Comparison.{Tells, unequal, equal, differing, NamesTell, Looked, within, ahead, Reaches}
 use Rattle.format.specs.declared.Comparison.{Comparison}
 use Rattle.format.proofs.Tests.{true-same, false-same}
-use Rattle.format.proofs.Text.{units-at, replaced-plain, lossy-at, length-lossy, length-name}
+use Rattle.format.proofs.Text.{units-at, replaced-plain, lossy-at, length-lossy}
 use Rattle.format.proofs.Surrogates.{true-high, mended-lossy}
 
 -- ---- the units that two names begin with alike
@@ -109,12 +109,12 @@ finding a b = go (eqb (length a) (length b)) refl (eqb (commonUnits a b) (length
         less n = omega (arith, n, common-most a b)
 
 -- every unit up to the first that differs is compared
-pub comparison-next : (a b : List ℕ) (i : ℕ) → length a ≡ length b → i < length a → Alike a b i → i + 1 ≤ comparison a b .units
+pub comparison-next : (a b : List ℕ) (i : ℕ) → length a ≡ length b → i < length a → Alike a b i → i < comparison a b .units
 unfolding comparison
 comparison-next a b i e h f = rw (eq-eqb (length a) (length b) e) (go (eqb (commonUnits a b) (length a)))
   where
-    go : (t : Bool) → i + 1 ≤ cond t (alike (length a)) (differ (suc (commonUnits a b))) .units
-    go true = omega arith
+    go : (t : Bool) → i < cond t (alike (length a)) (differ (suc (commonUnits a b))) .units
+    go true = h
     go false = omega (arith, common-more a b i (omega arith) (omega (arith, e)) f)
 
 -- and none that there is not
@@ -135,52 +135,26 @@ comparison-same a b = go (finding a b)
     go (all e f) = rw (comparison-alike a b e f) (sym (true-same a b (ext-getD 0 a b e f)))
     go (first i e h f d) = rw (comparison-differs a b i e h f d) (sym (false-same a b λ q. d (ap (λ (l : List ℕ). getD l i 0) q)))
 
--- ---- the same of names as they stand in a file
+-- the same, where the lengths are known by other names
+module _ (a b : List ℕ) {n m : ℕ} (p : length a ≡ n) (q : length b ≡ m) where
+  one-length : n ≡ m → length a ≡ length b
+  one-length e = p ∙ (e ∙ sym q)
 
-module _ (s : List ℕ) (at n from m : ℕ) where
-  abbrev here : List ℕ
-  here = lossy (units n s at)
+  pub told-lengths : (n ≡ m → ⊥) → comparison a b ≡ differ 0
+  told-lengths f = comparison-lengths a b λ e. f (sym p ∙ (e ∙ q))
 
-  abbrev there : List ℕ
-  there = lossy (units m s from)
+  pub told-alike : n ≡ m → Alike a b n → comparison a b ≡ alike n
+  told-alike e f = comparison-alike a b (one-length e) (rw p f) ∙ ap alike p
 
-  one-length : n ≡ m → length here ≡ length there
-  one-length e = length-name n s at ∙ (e ∙ sym (length-name m s from))
+  pub told-differ : (i : ℕ) → n ≡ m → i < n → Alike a b i → (getD a i 0 ≡ getD b i 0 → ⊥) → comparison a b ≡ differ (i + 1)
+  told-differ i e h f d = comparison-differs a b i (one-length e) (rw p h) f d
 
-  pub names-lengths : (n ≡ m → ⊥) → comparedIn s at n from m ≡ differ 0
-  unfolding compared
-  names-lengths f = comparison-lengths here there λ e. f (sym (length-name n s at) ∙ (e ∙ length-name m s from))
+  pub told-next : (i : ℕ) → n ≡ m → i < n → Alike a b i → i < comparison a b .units
+  told-next i e h f = comparison-next a b i (one-length e) (rw p h) f
 
-  pub names-alike : n ≡ m → Alike here there n → comparedIn s at n from m ≡ alike n
-  unfolding compared
-  names-alike e f = comparison-alike here there (one-length e) (rw length-name f) ∙ ap alike (length-name n s at)
-
-  pub names-differ : (i : ℕ) → n ≡ m → i < n → Alike here there i → (getD here i 0 ≡ getD there i 0 → ⊥) → comparedIn s at n from m ≡ differ (i + 1)
-  unfolding compared
-  names-differ i e h f d = comparison-differs here there i (one-length e) (rw length-name h) f d
-
-  pub names-next : (i : ℕ) → n ≡ m → i < n → Alike here there i → i + 1 ≤ comparedIn s at n from m .units
-  unfolding compared
-  names-next i e h f = comparison-next here there i (one-length e) (rw length-name h) f
-
--- and of such a name and one of ASCII bytes
-module _ (name s : List ℕ) (at n : ℕ) where
-  pub with-lengths : (length name ≡ n → ⊥) → comparedWith name s at n ≡ differ 0
-  with-lengths f = comparison-lengths name (lossy (units n s at)) λ e. f (e ∙ length-name n s at)
-
-  pub with-alike : length name ≡ n → Alike name (lossy (units n s at)) n → comparedWith name s at n ≡ alike n
-  with-alike e f = comparison-alike name (lossy (units n s at)) (e ∙ sym (length-name n s at)) (rw e f) ∙ ap alike e
-
-  pub with-differs : (i : ℕ) → length name ≡ n → i < n → Alike name (lossy (units n s at)) i
-      → (getD name i 0 ≡ getD (lossy (units n s at)) i 0 → ⊥) → comparedWith name s at n ≡ differ (i + 1)
-  with-differs i e h f d = comparison-differs name (lossy (units n s at)) i (e ∙ sym (length-name n s at)) (rw e h) f d
-
-  -- the first unit that is not known to be alike is compared
-  pub with-next : (i : ℕ) → length name ≡ n → i < n → Alike name (lossy (units n s at)) i → i < comparedWith name s at n .units
-  with-next i e h f = omega (arith, comparison-next name (lossy (units n s at)) i (e ∙ sym (length-name n s at)) (rw e h) f)
+-- ---- names as they stand in a file
 
 pub as-before : (a b : List ℕ) → compared a b .same ≡ same (lossy a) (lossy b)
-unfolding compared
 as-before a b = comparison-same (lossy a) (lossy b)
 
 -- a name with no surrogate is its own replacement
@@ -188,7 +162,6 @@ lossy-plain : (a : List ℕ) → ((k : ℕ) → getD a k 0 < 0xD800) → lossy a
 lossy-plain a f = ext-getD 0 (lossy a) a (length-lossy a) λ k h. lossy-at a k (rw length-lossy at h) ∙ replaced-plain _ _ _ (f k)
 
 pub plain-name : (a b : List ℕ) → ((k : ℕ) → getD a k 0 < 0xD800) → compared a b ≡ comparison a (lossy b)
-unfolding compared
 plain-name a b f = ap (λ (l : List ℕ). comparison l (lossy b)) (lossy-plain a f)
 
 -- ---- the rules
@@ -241,7 +214,6 @@ tells-comparison (differing front u v a b d e) =
 
 -- what is computed is what the rules tell, and nothing else
 pub comparison-is : (a b : List ℕ) (t : Bool) (n : ℕ) → NamesTell a b t n ↔ ((compared a b .same ≡ t) × (compared a b .units ≡ n))
-unfolding compared
 comparison-is a b t n = (to, from)
   where
     to : NamesTell a b t n → (comparison (lossy a) (lossy b) .same ≡ t) × (comparison (lossy a) (lossy b) .units ≡ n)
@@ -263,7 +235,7 @@ looked-most a c k (within h) = omega arith
 looked-most a c k (ahead e h) = omega (arith, e)
 
 -- fewer units compared look at no more
-pub looked-less : {a : List ℕ} {c d k : ℕ} → c ≤ d → Looked a c k → Looked a d k
+looked-less : {a : List ℕ} {c d k : ℕ} → c ≤ d → Looked a c k → Looked a d k
 looked-less {k = k} h (within g) = within {k = k} (omega arith)
 looked-less {a = a} {d = d} h (ahead {k = k} e g) = go (eqb d (suc k)) refl
   where
@@ -299,7 +271,6 @@ module _ (a b : List ℕ) (c : ℕ) (e : length b ≡ length a) (h : c ≤ lengt
 pub no-further : (a b a′ b′ : List ℕ) → length a′ ≡ length a → length b′ ≡ length b
     → ((k : ℕ) → Looked a (compared a b .units) k → getD a′ k 0 ≡ getD a k 0)
     → ((k : ℕ) → Looked b (compared a b .units) k → getD b′ k 0 ≡ getD b k 0) → compared a′ b′ ≡ compared a b
-unfolding compared
 no-further a b a′ b′ p q f g = go (finding (lossy a) (lossy b))
   where
     c : ℕ
@@ -320,8 +291,8 @@ no-further a b a′ b′ p q f g = go (finding (lossy a) (lossy b))
     across : (i : ℕ) → i ≤ c → Alike (lossy a) (lossy b) i → Alike (lossy a′) (lossy b′) i
     across i h e k l = x k (omega arith) ∙ (e k l ∙ sym (y k (omega arith)))
 
-    apart : (i : ℕ) → i + 1 ≤ c → (getD (lossy a) i 0 ≡ getD (lossy b) i 0 → ⊥) → getD (lossy a′) i 0 ≡ getD (lossy b′) i 0 → ⊥
-    apart i h d z = d (sym (x i (omega arith)) ∙ (z ∙ y i (omega arith)))
+    apart : (i : ℕ) → i < c → (getD (lossy a) i 0 ≡ getD (lossy b) i 0 → ⊥) → getD (lossy a′) i 0 ≡ getD (lossy b′) i 0 → ⊥
+    apart i h d z = d (sym (x i h) ∙ (z ∙ y i h))
 
     go : Found (lossy a) (lossy b) → comparison (lossy a′) (lossy b′) ≡ comparison (lossy a) (lossy b)
     go (lengths d) = comparison-lengths (lossy a′) (lossy b′) (λ e. d (sym m ∙ (e ∙ n))) ∙ sym (comparison-lengths (lossy a) (lossy b) d)
@@ -336,8 +307,9 @@ no-further a b a′ b′ p q f g = go (finding (lossy a) (lossy b))
 
 -- ---- what has to lie in the bytes
 
-pub reaches-less : (s : List ℕ) (at n c d : ℕ) → Reaches s at n d → c ≤ d → Reaches s at n c
-reaches-less s at n c d r h k g l = r k g (looked-less h l)
+-- where unit i is among those compared, what comparing up to it looks at lies in the bytes too
+pub reaches-less : (s : List ℕ) (at n i c : ℕ) → Reaches s at n c → i < c → Reaches s at n (i + 1)
+reaches-less s at n i c r h k g l = r k g (looked-less (omega arith) l)
 
 -- the last unit compared lies in the bytes, and the one after it where it is a high surrogate
 pub reaches-unit : (s : List ℕ) (at n i : ℕ) → i < n → Reaches s at n (i + 1) → at + 2 * i + 2 ≤ length s

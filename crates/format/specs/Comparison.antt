@@ -28,8 +28,7 @@ comparison a b =
     cond (eqb (length a) (length b)) (cond (eqb (commonUnits a b) (length a)) (alike (length a)) (differ (suc (commonUnits a b)))) (differ 0)
 
 -- two names as they stand in a file
-unfoldable pub compared : List ℕ → List ℕ → Comparison
-unfolding comparison lossy
+abbrev pub compared : List ℕ → List ℕ → Comparison
 compared a b = comparison (lossy a) (lossy b)
 
 -- the n units at `at` and the m at `from` of the same bytes

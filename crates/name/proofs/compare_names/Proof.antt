@@ -6,7 +6,8 @@ use borrow.Author.Count.{below-more}
 use borrow.Author.Needs.{needs}
 use borrow.Author.Tests.{eqb-true, eqb-false, not-true, not-false}
 use Rattle.format.specs.Text.{units, lossy}
-use Rattle.format.proofs.Compared.{Alike, names-lengths, names-alike, names-differ, names-next, reaches-less}
+use Rattle.format.proofs.Text.{length-name}
+use Rattle.format.proofs.Compared.{Alike, told-lengths, told-alike, told-differ, told-next, reaches-less}
 use Rattle.name.proofs.compare_names.Statement.{statement}
 use Rattle.name.proofs.compare_names.Tie as tie
 
@@ -17,7 +18,7 @@ abbrev μ-loop : tie.MeasureT-loop
 μ-loop s at n from m i₀ i = n - i
 
 returns : tie.Need-returns Inv-loop μ-loop
-returns c = sym (names-lengths _ _ _ _ _ (c .if1 .taken))
+returns c = sym (told-lengths _ _ (length-name _ _ _) (length-name _ _ _) (c .if1 .taken))
 
 loop-holds : tie.Need-loop-holds Inv-loop μ-loop
 loop-holds c = (search needs, λ k h. absurd (omega arith))
@@ -30,8 +31,8 @@ same-unit-requires c κs =
     let h = c .loop-test .taken in (
       h,
       rw (← e) h,
-      reaches-less _ _ _ _ _ (p .0) (names-next _ _ _ _ _ _ e h (c .before .loop .inv .1)),
-      reaches-less _ _ _ _ _ (p .1) (names-next _ _ _ _ _ _ e h (c .before .loop .inv .1)),
+      reaches-less _ _ _ _ _ (p .0) (told-next _ _ (length-name _ _ _) (length-name _ _ _) _ e h (c .before .loop .inv .1)),
+      reaches-less _ _ _ _ _ (p .1) (told-next _ _ (length-name _ _ _) (length-name _ _ _) _ e h (c .before .loop .inv .1)),
     )
 
 add-t10 : tie.Need-add-t10 Inv-loop μ-loop
@@ -40,7 +41,7 @@ add-t10 c = search needs
 returns-2 : tie.Need-returns-2 Inv-loop μ-loop
 returns-2 c =
     let l = c .before .before in
-    sym (names-differ _ _ _ _ _ _ (l .before .before .if1 .left) (l .loop-test .taken) (l .before .loop .inv .1)
+    sym (told-differ _ _ (length-name _ _ _) (length-name _ _ _) _ (l .before .before .if1 .left) (l .loop-test .taken) (l .before .loop .inv .1)
     (eqb-false _ _ (sym (c .before .same-unit .ensures) ∙ not-true _ (c .if2 .taken))))
 
 add-i : tie.Need-add-i Inv-loop μ-loop
@@ -56,7 +57,7 @@ loop-again c = (
 )
 
 returns-3 : tie.Need-returns-3 Inv-loop μ-loop
-returns-3 c = sym (names-alike _ _ _ _ _ (c .before .before .if1 .left) λ k h. c .before .loop .inv .1 k (omega arith))
+returns-3 c = sym (told-alike _ _ (length-name _ _ _) (length-name _ _ _) (c .before .before .if1 .left) λ k h. c .before .loop .inv .1 k (omega arith))
 
 pub compare-names-spec : {M : Type 1} → statement M
 compare-names-spec =
