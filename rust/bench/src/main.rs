@@ -4,10 +4,11 @@
 //!           [--entries N] [--names N] [--repetitions N]
 //!
 //! ORIGINAL_FOLDER has the original's nd2_reader.rs, calibration.rs, types.rs and guard.rs; without it the original is
-//! left out. The folder of --before has the libcapi.a of an earlier build, which opens the levels of names too. Planes have N x N samples (--side, 2048); those of the roller, of which there are 528, N x N too
-//! (--roller-side, 512: with 2048 the roller has 4.4 GB and as much memory is needed). All contenders take turns in this one
-//! process, and the best time of each counts. The exit status is 1 where a target is missed; one
-//! that needs the original, where that is left out, is told as not run.
+//! left out. The folder of --before has the libcapi.a of an earlier build, which opens the levels of names too. Planes
+//! have N x N samples (--side, 2048); those of the roller, of which there are 528, N x N too (--roller-side, 512: with
+//! 2048 the roller has 4.4 GB and as much memory is needed). All contenders take turns in this one process, and the best
+//! time of each counts. The exit status is 1 where a target is missed; one that needs the original, where that is left
+//! out, is told as not run.
 
 mod before;
 mod cases;
@@ -52,18 +53,24 @@ struct Options {
     repetitions: u32,
 }
 
+impl Default for Options {
+    fn default() -> Options {
+        Options {
+            original: None,
+            only: None,
+            side: 2048,
+            roller_side: 512,
+            entries: 2_000_000,
+            names: 10_000,
+            before: None,
+            repetitions: 5,
+        }
+    }
+}
+
 fn options() -> Option<Options> {
     let mut arguments = std::env::args_os().skip(1);
-    let mut options = Options {
-        original: None,
-        only: None,
-        side: 2048,
-        roller_side: 512,
-        entries: 2_000_000,
-        names: 10_000,
-        before: None,
-        repetitions: 5,
-    };
+    let mut options = Options::default();
     while let Some(argument) = arguments.next() {
         let mut value = || {
             arguments
