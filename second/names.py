@@ -55,8 +55,8 @@ def replaced(units):
 
 
 def answer(first, second):
-    """Whether two texts are the same, and how many units are compared to tell: none where their lengths differ, otherwise up to and with the first that
-    differs, or all."""
+    """Whether two texts are the same, and how many units are compared to tell: none where their lengths differ, otherwise the first that differs and
+    those before it, or all."""
     a, b = replaced(first), replaced(second)
     compared = 0
     if len(a) == len(b):

@@ -7,9 +7,13 @@ use sample::Nd2;
 
 /// The trees that every file needs.
 fn needed(sizes: Sizes, loops: &[(u32, Vec<Record>)]) -> Nd2 {
+    with_experiment(sizes, parts::experiment(loops))
+}
+
+fn with_experiment(sizes: Sizes, experiment: Record) -> Nd2 {
     let mut file = Nd2::new();
     file.add(parts::ATTRIBUTES, &parts::attributes(sizes).encode());
-    file.add(parts::EXPERIMENT, &parts::experiment(loops).encode());
+    file.add(parts::EXPERIMENT, &experiment.encode());
     file
 }
 
@@ -72,7 +76,7 @@ pub enum Units {
 
 /// Every name has a unit of its own from here on, below the surrogates.
 const OWN: u16 = 0x100;
-/// So many names have one.
+/// With no more names than these, all of those units are below the surrogates.
 pub const MOST_NAMES: u32 = 50_000;
 
 /// The units of name number i, and their zero.
@@ -111,11 +115,5 @@ pub fn walked_names(names: usize, levels: bool) -> Vec<u8> {
         level("uLoopPars", parts::counted(1)),
         level("ppNextLevelEx", (0..names).map(entry).collect()),
     ];
-    let mut file = Nd2::new();
-    file.add(
-        parts::ATTRIBUTES,
-        &parts::attributes(Sizes::packed(4, 4, 1, 16)).encode(),
-    );
-    file.add(parts::EXPERIMENT, &level("SLxExperiment", loops).encode());
-    file.finish()
+    with_experiment(Sizes::packed(4, 4, 1, 16), level("SLxExperiment", loops)).finish()
 }

@@ -17,6 +17,7 @@ pub type Symbol = *mut c_void;
 
 pub struct Library {
     handle: *mut c_void,
+    path: CString,
 }
 
 impl Library {
@@ -28,7 +29,7 @@ impl Library {
         let handle = dlopen(path.as_ptr(), RTLD_NOW);
         match handle.is_null() {
             true => Err(io::Error::other(format!("{path:?} cannot be loaded"))),
-            false => Ok(Library { handle }),
+            false => Ok(Library { handle, path }),
         }
     }
 
@@ -38,7 +39,7 @@ impl Library {
         // SAFETY: the library is loaded, and the name ends in a zero.
         let found = unsafe { dlsym(self.handle, c_name.as_ptr()) };
         match found.is_null() {
-            true => Err(io::Error::other(format!("it has no {name}"))),
+            true => Err(io::Error::other(format!("{:?} has no {name}", self.path))),
             false => Ok(found),
         }
     }

@@ -10,8 +10,8 @@ use nd2::raw::{self, ENTRY_BYTES, SUMMARY_BYTES};
 use nd2::Reader;
 use std::hint::black_box;
 
-/// Entries beside those of the level.
-const OTHERS: usize = 64;
+/// Room in the table beside the entries of the level.
+const SPARE_ENTRIES: usize = 64;
 
 /// Who opens the files beside the proved reader and the second implementation.
 #[derive(Clone, Copy)]
@@ -29,7 +29,7 @@ struct Names<'f> {
 
 impl Names<'_> {
     fn table(&self) -> Vec<u8> {
-        vec![1; (self.names + OTHERS) * ENTRY_BYTES]
+        vec![1; (self.names + SPARE_ENTRIES) * ENTRY_BYTES]
     }
 
     /// Asserts that all open the file, with the frames that it has, and the earlier build to the very same summary.
