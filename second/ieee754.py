@@ -1,4 +1,5 @@
-"""The IEEE 754 examples of crates/numbers by another way: exact fractions, rounded by the standard's rule, and document 01's readings.
+"""The IEEE 754 examples of crates/numbers by another way: exact fractions, rounded by the standard's rule, and the
+readings of document 01 and of change request 4.
 
 Prints the very lines that the proved program prints: python3 second/ieee754.py | diff - crates/numbers/stdout
 No float of Python's takes part."""
@@ -110,20 +111,25 @@ def positive(v):
     return v != NAN and v[0] == 0 and v[1] != 0
 
 
-def unsigned(v):
-    """Below 0 or NaN is absent (-0 is 0), doubles truncate and saturate."""
-    if v == NAN or (v[0] == 1 and v[1] != 0):
+def whole(v, least, most):
+    """The whole number that a value is, from the least to the most; a fraction, a NaN and an infinity are absent (-0 is 0)."""
+    if v == NAN or v[1] == "inf" or v[1].denominator != 1:
         return "absent"
-    return 2**64 - 1 if v[1] == "inf" else min(int(v[1]), 2**64 - 1)
+    n = number(v).numerator
+    return n if least <= n <= most else "absent"
+
+
+def unsigned(v):
+    return whole(v, 0, 2**64 - 1)
 
 
 def signed(v):
-    """Truncates and saturates, NaN is 0."""
-    if v == NAN:
-        return 0
-    most = 2**63 if v[0] else 2**63 - 1
-    n = most if v[1] == "inf" else min(int(v[1]), most)
-    return -n if v[0] else n
+    return whole(v, -(2**63), 2**63 - 1)
+
+
+def of_integer(n):
+    """A whole number as a value."""
+    return (int(n < 0), Fraction(abs(n)))
 
 
 def stated_step(v):
@@ -174,8 +180,10 @@ def single(bits):
     print("single %08x %s" % (bits, classed(SINGLE.decode(bits))))
 
 
-def whole(n):
-    print("whole %d f64 %s signed %s below f64 %s" % (n, hex64(of_whole(n)), n if n < 2**63 else "absent", hex64(of_whole(-1 - n))))
+def integer(n):
+    below = -1 - n
+    told = (n, hex64(of_whole(n)), signed(of_integer(n)), hex64(of_whole(below)), signed(of_integer(below)))
+    print("whole %d f64 %s signed %s below f64 %s signed %s" % told)
 
 
 def stated(bits):
@@ -201,10 +209,10 @@ INF = 0x7FF << 52
 TOP = INF - 1  # the largest finite double
 
 # zeros, fractions, subnormals, the largest, infinities, NaNs
-for b in (0, MINUS, f64(1), f64(-1), f64("-0.5"), f64(-1) - 1, f64("0.5"), f64("0.9"), f64("1.9"), f64("2.9"), f64("-2.9"), 1, MINUS + 1, 2**52 - 1, 2**52, TOP, MINUS + TOP, INF, MINUS + INF, INF + 2**51, INF + 1, INF + 2**52 - 1, MINUS + INF + 2**51, MINUS + INF + 1):
+for b in (0, MINUS, f64(1), f64(-1), f64("-0.5"), f64(-1) - 1, f64("0.5"), f64("0.9"), f64("1.9"), f64("1.5"), f64(2), f64(-2), f64("2.9"), f64("-2.9"), f64(1) + 1, f64(two(-53)), 1, MINUS + 1, 2**52 - 1, 2**52, TOP, MINUS + TOP, INF, MINUS + INF, INF + 2**51, INF + 1, INF + 2**52 - 1, MINUS + INF + 2**51, MINUS + INF + 1):
     double(b)
-# around 2^51, 2^53, 2^63 and 2^64
-for b in (f64(two(51) + two(-1)), f64(two(52) + 1), f64(two(53) - 1), f64(two(53)), f64(two(53) + 2), f64(two(63) - 1024), f64(two(63)), f64(two(63) + 2048), f64(1024 - two(63)), f64(-two(63)), f64(-two(63) - 2048), f64(two(64) - 2048), f64(two(64)), f64(two(64) + 4096), f64(-two(64))):
+# around 2^32, 2^51, 2^53, 2^63 and 2^64
+for b in (f64(two(32) - 1), f64(two(32)), f64(two(51) + two(-1)), f64(two(52) - two(-1)), f64(two(52) + 1), f64(two(53) - 1), f64(two(53)), f64(two(53) + 2), f64(two(63) - 1024), f64(two(63)), f64(two(63) + 2048), f64(1024 - two(63)), f64(-two(63)), f64(-two(63) - 2048), f64(two(64) - 2048), f64(two(64)), f64(two(64) + 4096), f64(-two(64))):
     double(b)
 # half way between two singles, and just beside
 tie, other = f64(1 + two(-24)), f64(1 + 3 * two(-24))
@@ -220,7 +228,7 @@ for b in (f64(2**23 * unit), f64((2**23 - two(-1)) * unit), f64((2**23 - two(-1)
     double(b)
 
 for n in (0, 1, 2**53 - 1, 2**53, 2**53 + 1, 2**53 + 2, 2**53 + 3, 2**54 + 2, 2**54 + 3, 2**54 + 6, 2**63 - 1, 2**63, 2**63 + 1024, 2**63 + 1025, 2**63 + 4096, 2**64 - 2048, 2**64 - 1025, 2**64 - 1024, 2**64 - 2, 2**64 - 1):
-    whole(n)
+    integer(n)
 
 least, most = SINGLE.encode(LEAST), SINGLE.encode(MOST)
 for b in (0, 0x80000000, 1, least - 1, least, least + 1, 0x3F800000, 0xBF800000, most - 1, most, most + 1, 0x7F7FFFFF, 0x7F800000, 0xFF800000, 0x7FC00000, 0x7F800001, 0xFFC00000):

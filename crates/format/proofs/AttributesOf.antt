@@ -1,14 +1,13 @@
 -- The grammar's attributes are those that are read. Assumes nothing.
-use Prim.Native.Nat.{ℕ, _^_, _<_}
+use Prim.Native.Nat.{ℕ}
 use mathlib.Core.Path.{_≡_, refl, sym, ap, subst}
 use mathlib.Core.Bool.{true, false, not, true≢false}
 use mathlib.Core.Option.{Option, none, some}
 use mathlib.Core.List.{List}
-use lib.Dec.{ltb}
 use lib.IntN.{ℤ, pos, negsuc}
-use borrow.Author.Tests.{ltb-true, lt-ltb, eqb-true, not-false}
-use Rattle.format.proofs.Answers.{none≢some, refuseIf-given, andThen-given, orRefuse-given, given-inj, not-refused, go-on, found}
-use Rattle.format.proofs.Rules.{cond-some}
+use borrow.Author.Tests.{eqb-true, not-false}
+use Rattle.format.proofs.Answers.{refuseIf-given, andThen-given, orRefuse-given, given-inj, not-refused, go-on, found}
+use Rattle.format.proofs.Wholes.{below-some, some-below}
 use Rattle.format.proofs.Means.{Means}
 use Rattle.format.proofs.Fields.{level-at, unsigned-in, signed-in}
 use Rattle.format.proofs.Summaries.{bits-good, good-bits, shape-good, good-shape}
@@ -20,15 +19,6 @@ use Rattle.format.specs.Attributes.{badShape, badBits, uncompressed, att
 use Rattle.format.specs.Grammar.Attributes.{AttributesOf}
 use Rattle.format.specs.declared.Entry.{Entry}
 use Rattle.format.specs.declared.Attributes.{Attributes}
-
-pub below-some : (o : Option ℕ) (n : ℕ) → below32 o ≡ some n → (o ≡ some n) × (n < 2 ^ 32)
-unfolding below32
-below-some none n e = absurd (none≢some e)
-below-some (some m) n e = let (q, z) = cond-some (ltb m (2 ^ 32)) m n e in (ap some z, rw (← z) (ltb-true m (2 ^ 32) q))
-
-pub some-below : (o : Option ℕ) (n : ℕ) → o ≡ some n → n < 2 ^ 32 → below32 o ≡ some n
-unfolding below32
-some-below o n e h = rw (e, lt-ltb n (2 ^ 32) h) refl
 
 pub two-uncompressed : (o : Option ℤ) → uncompressed o ≡ true → o ≡ some (pos 2)
 unfolding uncompressed

@@ -2,8 +2,7 @@
 use Prim.Native.Nat.{ℕ, zero, suc, _+_}
 use mathlib.Core.Path.{_≡_, refl, sym, ap, _∙_}
 use mathlib.Core.Bool.{Bool, true, false, cond, not, _||_, true≢false, false≢true}
-use mathlib.Core.Logic.{inl, inr}
-use mathlib.Core.Option.{Option, none, some}
+use mathlib.Core.Option.{Option, none, some, Option·some-inj}
 use mathlib.Core.List.{List, [], _∷_}
 use native.Mathlib.Nat.{zero-add}
 use native.Mathlib.Omega.{arith}
@@ -15,6 +14,7 @@ use Rattle.format.proofs.Tests.{or-left, or-right, or-none, cond-by}
 use Rattle.format.proofs.Answers.{none≢some}
 use Rattle.format.proofs.Rules.{Gives, States, no-such, none-of, bind-some, some-bind}
 use Rattle.format.proofs.Means.{Means}
+use Rattle.format.proofs.Wholes.{unsigned-of}
 use Rattle.format.proofs.Fields.{field-in, level-in, unsigned-in, signed-in}
 use Rattle.format.proofs.Lookups.{as-level}
 use Rattle.format.proofs.Lists.{all-take}
@@ -24,7 +24,7 @@ use Rattle.format.specs.Numbers.{unsigned, signed}
 use Rattle.format.specs.Loops.{mostCount, orZero, loopParams, childLevels, sizeOf, countSet, validOf, countField, pointCount, planesCount, spectralCount, Said, nothing, wrong, loop, supported, counted, typed, saidBy, said}
 use Rattle.format.specs.Grammar.Lists.{All, over, more}
 use Rattle.format.specs.Grammar.Values.{ValueOf, Field}
-use Rattle.format.specs.Grammar.Numbers.{Signed}
+use Rattle.format.specs.Grammar.Numbers.{ReadsUnsigned, Signed}
 use Rattle.format.specs.Grammar.Loops.{Parameters, in-level, in-list, UiCount, stated as count-stated, unstated as count-unstated, PlanesCount, SpectralCount, preferred, plain, Points, Valid, no-more, set, unset, PointCount, no-points, all-points, valid-points, Count, of-time, of-points, of-focus, of-spectral, of-custom, of-time-uneven, Stops, no-parameters, no-type, type-0, type-over, count-0, LoopAt, Below, levels, no-levels}
 use Rattle.format.specs.Refused.Loops.{LoopType, time, points, focus, spectral, custom, time-uneven, Unfit, type-negative, type-other, count-over}
 use Rattle.format.specs.Refusals as why
@@ -145,20 +145,31 @@ module _ (s : List ℕ) (es : List Entry) (M : Means s es) where
       back n no-more = refl
   valid-in (i ∷ is) (more v a) = let r = valid-in is a in record { holds = go r (unsigned (valueAt s es i)) refl; only = back r }
     where
+      not-suc : (m : ℕ) → 0 ≡ suc m → ⊥
+      not-suc m e = omega arith
+
+      -- a value that reads as no number above 0
+      no-unit : (x : Value) → ((m : ℕ) → ReadsUnsigned x (suc m) → ⊥) → orZero (unsigned x) ≡ 0
+      no-unit x f = read (unsigned x) refl
+        where
+          read : (o : Option ℕ) → unsigned x ≡ o → orZero o ≡ 0
+          read none q = refl
+          read (some zero) q = refl
+          read (some (suc m)) q = absurd (f m (unsigned-of x .holds (suc m) q))
+
       one-more : (m n : ℕ) → cond (eqb (suc m) 0) 0 1 + n ≡ suc n
       one-more m n = rw (ne-eqb (suc m) 0 (λ e. omega arith)) (omega arith)
 
       go : Gives (countSet s es is) (Valid s es is) → (o : Option ℕ) → unsigned (valueAt s es i) ≡ o
           → Valid s es (i ∷ is) (cond (eqb (orZero o) 0) 0 1 + countSet s es is)
-      go r none q = rw zero-add (unset v (inl q) (r .holds))
-      go r (some zero) q = rw zero-add (unset v (inr q) (r .holds))
-      go r (some (suc m)) q = rw one-more (set v q (r .holds))
+      go r none q = rw zero-add (unset v (λ m h. none≢some (sym q ∙ unsigned-of (valueAt s es i) .only (suc m) h)) (r .holds))
+      go r (some zero) q = rw zero-add (unset v (λ m h. not-suc m (Option·some-inj .0 (sym q ∙ unsigned-of (valueAt s es i) .only (suc m) h))) (r .holds))
+      go r (some (suc m)) q = rw one-more (set v (unsigned-of (valueAt s es i) .holds (suc m) q) (r .holds))
 
       back : Gives (countSet s es is) (Valid s es is) → (n : ℕ) → Valid s es (i ∷ is) n
           → cond (eqb (orZero (unsigned (valueAt s es i))) 0) 0 1 + countSet s es is ≡ n
-      back r n (set {m = m} {n = k} {v = x} w q y) = rw (M .of-value i x w, q, r .only k y) (one-more m k)
-      back r n (unset {v = x} w (inl q) y) = rw (M .of-value i x w, q, r .only n y, zero-add) refl
-      back r n (unset {v = x} w (inr q) y) = rw (M .of-value i x w, q, r .only n y, zero-add) refl
+      back r n (set {m = m} {n = k} {v = x} w q y) = rw (M .of-value i x w, unsigned-of x .only (suc m) q, r .only k y) (one-more m k)
+      back r n (unset {v = x} w f y) = rw (M .of-value i x w, no-unit x f, r .only n y, zero-add) refl
 
   point-in : (i p : ℕ) → Gives (pointCount s es i p) (PointCount s es i p)
   unfolding pointCount

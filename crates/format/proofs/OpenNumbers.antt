@@ -21,7 +21,8 @@ use Rattle.format.proofs.Means.{Means}
 use Rattle.format.proofs.Depths.{tree-depths}
 use Rattle.format.proofs.Fields.{level-at, unsigned-in, signed-in}
 use Rattle.format.proofs.Summaries.{bits-good, good-bits, shape-good, good-shape}
-use Rattle.format.proofs.AttributesOf.{attributes-read, below-some, some-below, two-uncompressed, uncompressed-two}
+use Rattle.format.proofs.Wholes.{below-some, some-below}
+use Rattle.format.proofs.AttributesOf.{attributes-read, two-uncompressed, uncompressed-two}
 use Rattle.format.proofs.Walks.{levels-read, walk-fault-read}
 use Rattle.format.proofs.LoopFaults.{walk-number, judge-number, judge-read, fault-judge}
 use Rattle.format.proofs.Suffices.{fault-low}

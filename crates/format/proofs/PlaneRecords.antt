@@ -14,7 +14,7 @@ use Rattle.format.proofs.Answers.{none≢some}
 use Rattle.format.proofs.Rules.{States, no-such, none-of, bind-some, some-bind}
 use Rattle.format.proofs.Means.{Means}
 use Rattle.format.proofs.Fields.{field-in, level-at, level-in, unsigned-in}
-use Rattle.format.proofs.AttributesOf.{below-some, some-below}
+use Rattle.format.proofs.Wholes.{below-some, some-below}
 use Rattle.format.proofs.Covered.{plane-channel, covered-first, covered-later}
 use Rattle.format.specs.Bytes.{ascii}
 use Rattle.format.specs.Values.{Value, flag, whole, double, text, bytes, level, list, field, fieldIn, asLevel, bind}

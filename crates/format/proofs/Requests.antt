@@ -1,9 +1,21 @@
 -- The change requests hold of the definitions. Assumes nothing.
-use Rattle.format.specs.Requests.{Sheets, NameChecks}
+use Prim.Native.Nat.{_^_}
+use mathlib.Core.Path.{_≡_, refl}
+use mathlib.Core.Bool.{Bool, true, false}
+use mathlib.Core.Option.{some}
+use lib.IntN.{pos}
+use borrow.Author.Tests.{lt-ltb}
+use Rattle.format.specs.Values.{flag, bind}
+use Rattle.format.specs.Numbers.{oneIf, unsigned, signed, float}
+use Rattle.format.specs.Requests.{Sheets, NameChecks, WholeNumbers}
 use Rattle.format.proofs.Sheets.{rule-is, sheet-only}
 use Rattle.format.proofs.SheetCalls.{write-number, write-accepted, write-refused, written, plane-written}
 use Rattle.format.proofs.SheetCalls.{read-number, read-accepted, read-refused, read-zero, read-taken, turned-away, read-back}
 use Rattle.format.proofs.Compared.{as-before, comparison-is, plain-name, looked-most, no-further}
+use Rattle.format.proofs.DoubleEdges.{minus-zero, last-u64, past-u64, last-i64, past-i64, least-i64, below-i64, fractions, smallest}
+use Rattle.format.proofs.Wholes.{unsigned-of, signed-of, unsigned-absent, u32-absent, signed-absent}
+use Rattle.format.proofs.Named.{tree-means}
+use Rattle.format.proofs.Absent.{counts-as-absent}
 
 pub sheets : Sheets
 sheets = record {
@@ -31,3 +43,31 @@ name-checks = record {
   looked-most = looked-most;
   no-further = no-further;
 }
+
+pub whole-numbers : WholeNumbers
+unfolding unsigned signed float bind
+whole-numbers = record {
+  unsigned-is = λ v n. (unsigned-of v .only n, unsigned-of v .holds n);
+  signed-is = λ v z. (signed-of v .only z, signed-of v .holds z);
+  unsigned-absent = unsigned-absent;
+  u32-absent = u32-absent;
+  signed-absent = signed-absent;
+  minus-zero = minus-zero;
+  last-u64 = last-u64;
+  past-u64 = past-u64;
+  last-i64 = last-i64;
+  past-i64 = past-i64;
+  least-i64 = least-i64;
+  below-i64 = below-i64;
+  fractions = fractions;
+  smallest = smallest;
+  flags-stay = flag-read;
+  wholes-stay = λ n. (λ h. rw (lt-ltb n (2 ^ 64) h) refl, λ h. rw (lt-ltb n (2 ^ 63) h) refl);
+  below-stay = λ n. (refl, λ h. rw (lt-ltb n (2 ^ 63) h) refl);
+  doubles-stay = λ x. refl;
+  in-fields = λ s r es t. counts-as-absent s es (tree-means s r es t);
+}
+  where
+    flag-read : (b : Bool) → (unsigned (flag b) ≡ some (oneIf b)) × (signed (flag b) ≡ some (pos (oneIf b)))
+    flag-read true = (refl, refl)
+    flag-read false = (refl, refl)

@@ -2,7 +2,6 @@
 use Prim.Native.Nat.{ℕ}
 use mathlib.Core.Path.{_≡_, refl}
 use mathlib.Core.List.{List, [], _∷_, _++_}
-use lib.Ieee.{toSigned}
 use Rattle.format.specs.Answer.{given, refused, andThen, refuseIf, orRefuse}
 use Rattle.format.specs.Bytes.{ascii, leBytes, leAt, same, part}
 use Rattle.format.specs.Build.{eights, u32, levelOf, chunk, fileOf}
@@ -57,7 +56,7 @@ tinySummary =
     }
 
 pub tiny-opened : opened tiny 7 ≡ given tinySummary
-unfolding tiny tinySummary ascii leBytes endMark mapName opened andThen refuseIf leAt same part chunkData mapEntries orRefuse offsetOf within treeIn attributes asLevel field slotsOf nameOf units lossy bind unsigned signed below32 uncompressed badBits badShape putNamed putUnnamed elements slotValue valueAt experiment said loopParams orZero childLevels append judge hasAxis summaryOf calibration zStep zFloat unstated toSigned
+unfolding tiny tinySummary ascii leBytes endMark mapName opened andThen refuseIf leAt same part chunkData mapEntries orRefuse offsetOf within treeIn attributes asLevel field slotsOf nameOf units lossy bind unsigned signed below32 uncompressed badBits badShape putNamed putUnnamed elements slotValue valueAt experiment said loopParams orZero childLevels append judge hasAxis summaryOf calibration zStep zFloat unstated
 tiny-opened = refl
 
 pub tiny-short : opened tiny 6 ≡ refused 18

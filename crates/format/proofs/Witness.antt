@@ -4,7 +4,7 @@ use Prim.Native.String.{String}
 use mathlib.Core.Path.{_≡_, refl}
 use mathlib.Core.List.{List, [], _∷_, _++_}
 use lib.ListN.{replicate}
-use lib.Ieee.{binary32, ofBits, toSigned, round, lt, ne}
+use lib.Ieee.{binary32, ofBits, round, lt, ne}
 use Rattle.format.specs.Answer.{given, refused, andThen, refuseIf, orRefuse}
 use Rattle.format.specs.Bytes.{ascii, leBytes, leAt, same, part}
 use Rattle.format.specs.Build.{eights, flag, u32, f64, text, levelOf, chunk, fileOf}
@@ -115,14 +115,14 @@ pairSummary =
 pub pair-opened : opened pair 22 ≡ given pairSummary
 unfolding pair pairSummary ascii leBytes endMark mapName opened andThen refuseIf leAt same part chunkData mapEntries orRefuse offsetOf within treeIn
     attributes asLevel field slotsOf nameOf units lossy bind unsigned signed below32 uncompressed badBits badShape putNamed putUnnamed elements
-    slotValue valueAt experiment said loopParams orZero childLevels append judge hasAxis summaryOf calibration zStep zFloat unstated toSigned ofBits
+    slotValue valueAt experiment said loopParams orZero childLevels append judge hasAxis summaryOf calibration zStep zFloat unstated ofBits
     round lt ne float narrow magnitude positive finite zClass sizeOf pointCount pixelSize
 pair-opened = refl
 
 pub pair-short : opened pair 21 ≡ refused 18
 unfolding pair ascii leBytes endMark mapName opened andThen refuseIf leAt same part chunkData mapEntries orRefuse offsetOf within treeIn attributes
     asLevel field slotsOf nameOf units lossy bind unsigned signed below32 uncompressed badBits badShape putNamed putUnnamed elements slotValue valueAt
-    experiment said loopParams orZero childLevels append judge hasAxis summaryOf calibration zStep zFloat unstated toSigned ofBits round lt ne float
+    experiment said loopParams orZero childLevels append judge hasAxis summaryOf calibration zStep zFloat unstated ofBits round lt ne float
     narrow magnitude positive finite zClass sizeOf pointCount pixelSize
 pair-short = refl
 
@@ -199,6 +199,6 @@ pub pair-border :
     ≡ record { number = 0; table = replicate 1056 0; samples = 1 ∷ 3 ∷ 3 ∷ 3 ∷ 5 ∷ 3 ∷ 7 ∷ 3 ∷ 77 ∷ [] }
 unfolding pair borderCall ascii leBytes endMark mapName opened andThen refuseIf leAt same part chunkData mapEntries orRefuse offsetOf within treeIn
     attributes asLevel field slotsOf nameOf units lossy bind unsigned signed below32 uncompressed badBits badShape putNamed putUnnamed elements
-    slotValue valueAt experiment said loopParams orZero childLevels append judge hasAxis summaryOf calibration zStep zFloat unstated toSigned ofBits
+    slotValue valueAt experiment said loopParams orZero childLevels append judge hasAxis summaryOf calibration zStep zFloat unstated ofBits
     round lt ne float narrow magnitude positive finite zClass sizeOf pointCount pixelSize planeCall badSummary countOf seqIndex
 pair-border = refl

@@ -1,4 +1,4 @@
--- "Both edges": the starred lines, as rows of one statement.
+-- "Both edges": the starred lines, as rows of one statement, and what change request 4 puts in place of one of them.
 use Prim.Native.Nat.{ℕ}
 use mathlib.Core.Path.{_≡_}
 use mathlib.Core.Bool.{true}
@@ -12,6 +12,7 @@ use Rattle.format.specs.Trees.{read, entered, at, fault, treeEntries}
 use Rattle.format.specs.Values.{list, flag, valueAt}
 use Rattle.format.specs.declared.Attributes.{Attributes}
 use Rattle.format.specs.Attributes.{attributes}
+use Rattle.format.specs.Loops.{experiment}
 use Rattle.format.specs.Calibration.{zStep}
 use Rattle.format.specs.Frames.{seqIndex, samplePlace}
 use Rattle.format.specs.Channels.{channelOf}
@@ -47,6 +48,13 @@ nameUnitsOf e = e .units
 
 unfoldable pub attributesOf : ℕ → ℕ → Answer Attributes
 attributesOf row bits = let d = attributesData row bits in andThen (treeEntries (read d 0)) (attributes d)
+
+-- an experiment whose only level has these bits of the double eType, and uiCount 3
+unfoldable pub timesData : ℕ → List ℕ
+timesData bits = levelOf 2 "SLxExperiment" (f64 "eType" bits ++ levelOf 1 "uLoopPars" (u32 "uiCount" 3))
+
+unfoldable pub timesOf : ℕ → Answer (List Loop)
+timesOf bits = let d = timesData bits in andThen (treeEntries (read d 0)) λ es. experiment d es 0
 
 -- an experiment whose only level is of type 4, with this uiCount, dZHigh 10 and dZLow -10
 unfoldable pub stackData : ℕ → List ℕ
@@ -90,14 +98,20 @@ pub record Starred : Type 0 where
   pub level-17-unnamed : map nameUnitsOf (read (oneTrue 17) 0 .entries) ≡ 0 ∷ 0 ∷ []
   pub level-17-end : read (oneTrue 17) 0 .stop ≡ at 25
   pub level-13 : read (oneTrue 13) 0 .stop ≡ fault 10
-  -- "colour 0x00332211: 0x11, 0x22, 0x33. eCompression 2.9 passes, 1.9 gives 12."
+  -- "colour 0x00332211: 0x11, 0x22, 0x33."
   pub colour : planeOf 0x00332211 ≡ given (record { named = 0; name = 0; units = 0; colored = 1; red = 0x11; green = 0x22; blue = 0x33 })
-  pub compression-2·9 : attributesOf 12 0x4007333333333333 ≡ given (shaped 12)
-  pub compression-1·9 : attributesOf 12 0x3FFE666666666666 ≡ refused 12
+  -- change request 4, in place of the line by which an eCompression of 2.9 passed: "So 2.9 now gives 12 as not stated"; 1.9 gives 12 as before, and 2.0 passes
+  pub compression-2·9 : attributesOf 14 0x4007333333333333 ≡ refused 12
+  pub compression-1·9 : attributesOf 14 0x3FFE666666666666 ≡ refused 12
+  pub compression-2·0 : attributesOf 14 0x4000000000000000 ≡ given (shaped 14)
+  -- "and eType 1.5 means no loop"; 1.0 means one
+  pub type-1·5 : timesOf 0x3FF8000000000000 ≡ given []
+  pub type-1·0 : timesOf 0x3FF0000000000000 ≡ given (timesThree ∷ [])
   -- "dZHigh 10, dZLow −10, uiCount 11: 2.0. uiCount 1: none."
   pub step-11 : stepOf 11 ≡ given (some (ofBits binary64 0x4000000000000000))
   pub step-1 : stepOf 1 ≡ given none
-  -- the trees of the last three lines and of the row bytes are read to their ends
+  -- the trees of the last lines and of the row bytes are read to their ends
   pub attributes-whole : (row bits : ℕ) → Whole (attributesData row bits)
   pub plane-whole : (n : ℕ) → Whole (planeData n)
+  pub times-whole : (bits : ℕ) → Whole (timesData bits)
   pub stack-whole : (n : ℕ) → Whole (stackData n)

@@ -3,7 +3,7 @@
 -- constants: Chunks.chunkMark, Map.{endMark, mapName, mostEntries}, Trees.{packedType, mostItems, mostDepth}, Loops.mostCount,
 -- Calibration.{leastStep, mostStep}, Numbers.{zeroFloat, oneFloat} and the refusals' numbers, Refusals;
 -- sizes: Attributes.{leastRow, planeBytes}, and Summary.loopsOf, as many of a summary's places as are used;
--- the readings of numbers over lib.Ieee: Numbers.{unsigned, signed, float, narrow, magnitude};
+-- doubles over lib.Ieee: Numbers.{float, narrow, magnitude};
 -- types: Map.MapEntry, Values.Value, Loops.Built and those that src/ declares.
 pub mod Lists
 pub mod Chunks

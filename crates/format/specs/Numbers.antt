@@ -1,11 +1,11 @@
--- "Attributes": how a value is read as a number. Doubles go by the logic's account of IEEE 754, lib.Ieee.
-use Prim.Native.Nat.{ℕ, _^_, _*_}
-use mathlib.Core.Bool.{Bool, true, false, cond, _||_}
+-- "Attributes", and change request 4, "No more fractions as whole numbers": how a value is read as a number. Doubles go by the logic's account of IEEE 754, lib.Ieee.
+use Prim.Native.Nat.{ℕ, _^_, _*_, _/_, _%_}
+use mathlib.Core.Bool.{Bool, true, false, cond}
 use mathlib.Core.Option.{Option, none, some}
-use lib.Dec.{ltb}
-use lib.IntN.{ℤ, pos, negsuc}
-use lib.Ieee.{Float, nan, inf, fin, binary32, binary64, ofInt, toUnsigned, toSigned, isNan, round, lt, up, down}
-use Rattle.format.specs.Values.{Value, flag, whole, double, text, bytes, level, list}
+use lib.Dec.{ltb, eqb}
+use lib.IntN.{ℤ, pos, negsuc, negℤ}
+use lib.Ieee.{Float, nan, inf, fin, binary32, binary64, ofInt, round, lt, up, down}
+use Rattle.format.specs.Values.{Value, flag, whole, double, text, bytes, level, list, mapOption, bind}
 
 abbrev pub zeroFloat : Float
 zeroFloat = fin false 0 (pos 0)
@@ -18,43 +18,60 @@ abbrev pub oneIf : Bool → ℕ
 oneIf true = 1
 oneIf false = 0
 
--- "Unsigned reading: below 0 or NaN is absent (−0 is 0), doubles truncate and saturate."
-unfoldable pub unsignedFloat : Float → Option ℕ
-unsignedFloat x = cond (isNan x || lt x zeroFloat) none (some (toUnsigned 64 x))
+-- ---- whole numbers
 
-unfoldable pub unsignedInt : ℤ → Option ℕ
-unsignedInt (pos n) = some n
-unsignedInt (negsuc n) = none
+-- the whole number of this size, below 0 where the sign is a minus: the size 0 has no sign
+abbrev pub withSign : Bool → ℕ → ℤ
+withSign minus n = cond minus (negℤ (pos n)) (pos n)
 
+-- the size of a double, m × 2^e, where it is whole: 2^e is a fraction, and dividing by what is below its line leaves nothing
+unfoldable pub wholeSize : ℕ → ℤ → Option ℕ
+wholeSize m e = cond (eqb (m * up e % down e) 0) (some (m * up e / down e)) none
+
+-- "a double with a fraction, NaN, an infinity .. counts as absent" (change request 4); −0 is 0
+unfoldable pub wholeDouble : Float → Option ℤ
+unfolding wholeSize
+wholeDouble nan = none
+wholeDouble (inf s) = none
+wholeDouble (fin s m e) = mapOption (withSign s) (wholeSize m e)
+
+-- the whole number that a value is: "Flags read as 0 or 1."
+unfoldable pub wholeNumber : Value → Option ℤ
+unfolding wholeDouble
+wholeNumber (flag b) = some (pos (oneIf b))
+wholeNumber (whole z) = some z
+wholeNumber (double x) = wholeDouble x
+wholeNumber (text i n) = none
+wholeNumber (bytes i n) = none
+wholeNumber (level i) = none
+wholeNumber (list l) = none
+
+-- where u64 holds it
+unfoldable pub inU64 : ℤ → Option ℕ
+inU64 (pos n) = cond (ltb n (2 ^ 64)) (some n) none
+inU64 (negsuc n) = none
+
+-- where i64 holds it: negsuc n is −(n + 1)
+unfoldable pub inI64 : ℤ → Option ℤ
+inI64 (pos n) = cond (ltb n (2 ^ 63)) (some (pos n)) none
+inI64 (negsuc n) = cond (ltb n (2 ^ 63)) (some (negsuc n)) none
+
+-- "Unsigned reading"
 unfoldable pub unsigned : Value → Option ℕ
-unfolding unsignedFloat unsignedInt
-unsigned (flag b) = some (oneIf b)
-unsigned (whole z) = unsignedInt z
-unsigned (double x) = unsignedFloat x
-unsigned (text i n) = none
-unsigned (bytes i n) = none
-unsigned (level i) = none
-unsigned (list l) = none
+unfolding wholeNumber inU64
+unsigned v = bind (wholeNumber v) inU64
+
+-- "Signed reading (eCompression, eType)"
+unfoldable pub signed : Value → Option ℤ
+unfolding wholeNumber inI64
+signed v = bind (wholeNumber v) inI64
 
 -- "to u32": absent from 2^32 on
 unfoldable pub below32 : Option ℕ → Option ℕ
 below32 none = none
 below32 (some n) = cond (ltb n (2 ^ 32)) (some n) none
 
--- "Signed reading .. truncates and saturates, NaN is 0, u64 from 2^63 is absent."
-unfoldable pub signedInt : ℤ → Option ℤ
-signedInt (pos n) = cond (ltb n (2 ^ 63)) (some (pos n)) none
-signedInt (negsuc n) = some (negsuc n)
-
-unfoldable pub signed : Value → Option ℤ
-unfolding signedInt
-signed (flag b) = some (pos (oneIf b))
-signed (whole z) = signedInt z
-signed (double x) = some (toSigned 63 x)
-signed (text i n) = none
-signed (bytes i n) = none
-signed (level i) = none
-signed (list l) = none
+-- ---- doubles
 
 -- as a double: "whole numbers up to 2^64 − 1 round to f64"
 unfoldable pub float : Value → Option Float

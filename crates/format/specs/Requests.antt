@@ -1,23 +1,40 @@
 -- The customer's change requests, as far as the demands do not say them already: statements only, for any bytes, summaries, indices and buffers.
-use Prim.Native.Nat.{ℕ, _+_, _≤_, _<_}
+use Prim.Native.Nat.{ℕ, suc, _+_, _-_, _^_, _≤_, _<_}
 use mathlib.Core.Path.{_≡_}
 use mathlib.Core.Bool.{Bool}
 use mathlib.Core.Logic.{_↔_}
-use mathlib.Core.List.{List}
+use mathlib.Core.Option.{none, some}
+use mathlib.Core.List.{List, _∷_}
 use lib.ListN.{length, getD, take}
-use Rattle.format.specs.Bytes.{same}
+use lib.IntN.{ℤ, pos, negsuc, negℤ}
+use lib.Ieee.{Float, binary64, ofBits}
+use Rattle.format.specs.Answer.{refused}
+use Rattle.format.specs.Bytes.{same, ascii}
 use Rattle.format.specs.Text.{lossy}
-use Rattle.format.specs.Attributes.{planeBytes}
+use Rattle.format.specs.Refusals as why
+use Rattle.format.specs.Values.{Value, flag, whole, double, level}
+use Rattle.format.specs.Numbers.{oneIf, unsigned, signed, below32, float}
+use Rattle.format.specs.Attributes.{attributes, planeBytes}
 use Rattle.format.specs.Summary.{shapeOf}
 use Rattle.format.specs.Sheets.{sheet}
 use Rattle.format.specs.Comparison.{comparison, compared}
 use Rattle.format.specs.Calls.Plane.{planeCall}
 use Rattle.format.specs.Calls.Sheet.{sheetCall, sheetReadCall}
 use Rattle.format.specs.Grammar.Sheets.{SheetSizes, SheetOf}
+use Rattle.format.specs.Grammar.Trees.{Tree}
+use Rattle.format.specs.Grammar.Values.{ValueOf, Field}
+use Rattle.format.specs.Grammar.Numbers.{ReadsUnsigned, ReadsSigned, NotUnsigned, NotSigned}
+use Rattle.format.specs.Grammar.Attributes.{Sized}
+use Rattle.format.specs.Grammar.Loops.{UiCount, SpectralCount, Valid, Stops}
+use Rattle.format.specs.Grammar.Calibration.{NoStep}
+use Rattle.format.specs.Grammar.Channels.{Colored, Covers}
 use Rattle.format.specs.Grammar.Comparison.{NamesTell, Looked}
 use Rattle.format.specs.Refused.Order.{First}
 use Rattle.format.specs.Refused.Sheet.{SheetRefusal, sheetOrder, SheetReadRefusal, sheetReadOrder}
 use Rattle.format.specs.Sentences.{Refuses, AcceptedUnless, SheetWritten, PlaneOn, SheetTaken, TurnedAway, ZeroSizes}
+use Rattle.format.specs.declared.Range.{Range}
+use Rattle.format.specs.declared.Entry.{Entry}
+use Rattle.format.specs.declared.Attributes.{Attributes}
 use Rattle.format.specs.declared.Summary.{Summary}
 
 -- Change request 2, "Planes as TIFF sheets".
@@ -66,3 +83,61 @@ pub record NameChecks : Type 0 where
   pub no-further : (a b a′ b′ : List ℕ) → length a′ ≡ length a → length b′ ≡ length b
       → ((k : ℕ) → Looked a (compared a b .units) k → getD a′ k 0 ≡ getD a k 0)
       → ((k : ℕ) → Looked b (compared a b .units) k → getD b′ k 0 ≡ getD b k 0) → compared a′ b′ ≡ compared a b
+
+-- ---- change request 4, "No more fractions as whole numbers"
+
+-- the five numbers without which no file opens, and from where on a whole number is out of the range of each
+pub data SizeField : List ℕ → ℕ → Type 0 where
+  width : SizeField (ascii "uiWidth") (2 ^ 64)
+  row-bytes : SizeField (ascii "uiWidthBytes") (2 ^ 64)
+  height : SizeField (ascii "uiHeight") (2 ^ 64)
+  components : SizeField (ascii "uiComp") (2 ^ 64)
+  bits : SizeField (ascii "uiBpcInMemory") (2 ^ 32)
+
+-- What a double that counts as absent means, field by field, in a tree with the entries es.
+pub record CountsAsAbsent (s : List ℕ) (es : List Entry) : Type 0 where
+  -- 11
+  pub size-missing : (i : ℕ) (name : List ℕ) (limit : ℕ) (x : Float) → Field s es 0 (ascii "SLxImageAttributes") (level i) → SizeField name limit
+      → Field s es (suc i) name (double x) → NotUnsigned limit x → attributes s es ≡ refused why.missing
+  -- 12, where none of those five is missing
+  pub compression-unstated : (i : ℕ) (a : Attributes) (x : Float) → Sized s es i a
+      → Field s es (suc i) (ascii "eCompression") (double x) → NotSigned x → attributes s es ≡ refused why.compression
+  -- the level is no loop and its children are none; it states no z step of its own, and the search goes on below it
+  pub type-stops : (i : ℕ) (x : Float) → Field s es (suc i) (ascii "eType") (double x) → NotSigned x → Stops s es i
+  pub type-no-step : (i : ℕ) (x : Float) → Field s es (suc i) (ascii "eType") (double x) → NotSigned x → NoStep s es i
+  -- uiCount counts 0, and pPlanes.uiCount gives way to it
+  pub count-zero : (p : ℕ) (x : Float) → Field s es (suc p) (ascii "uiCount") (double x) → NotUnsigned (2 ^ 64) x → UiCount s es p 0
+  pub planes-give-way : (p q : ℕ) (x : Float) → Field s es (suc p) (ascii "pPlanes") (level q) → Field s es (suc q) (ascii "uiCount") (double x)
+      → NotUnsigned (2 ^ 64) x → (n : ℕ) → SpectralCount s es p n ↔ UiCount s es p n
+  -- an element of pItemValid is not valid
+  pub not-valid : (j : ℕ) (x : Float) → ValueOf s es j (double x) → NotUnsigned (2 ^ 64) x → (is : List ℕ) (n : ℕ) → Valid s es (j ∷ is) n ↔ Valid s es is n
+  -- a plane's record has no colour, and it covers one component
+  pub no-color : (i : ℕ) (x : Float) → Field s es (suc i) (ascii "uiColor") (double x) → NotUnsigned (2 ^ 32) x → Colored s es i 0 0 0 0
+  pub covers-one : (i : ℕ) (x : Float) → Field s es (suc i) (ascii "uiCompCount") (double x) → NotUnsigned (2 ^ 64) x → Covers s es i 1
+
+pub record WholeNumbers : Type 0 where
+  -- a value is read as the whole number that it is by the rules, and as no other
+  pub unsigned-is : (v : Value) (n : ℕ) → ReadsUnsigned v n ↔ (unsigned v ≡ some n)
+  pub signed-is : (v : Value) (z : ℤ) → ReadsSigned v z ↔ (signed v ≡ some z)
+  -- doubles that count as absent: with a fraction, NaN, infinite or out of range, and no others
+  pub unsigned-absent : (x : Float) → NotUnsigned (2 ^ 64) x ↔ (unsigned (double x) ≡ none)
+  pub u32-absent : (x : Float) → NotUnsigned (2 ^ 32) x ↔ (below32 (unsigned (double x)) ≡ none)
+  pub signed-absent : (x : Float) → NotSigned x ↔ (signed (double x) ≡ none)
+  -- where the ranges end, by the bits of doubles: −0 is 0, 2^64 − 2048 is the last of a u64, 2^63 − 1024 and −2^63 are the ends of an i64
+  pub minus-zero : (unsigned (double (ofBits binary64 0x8000000000000000)) ≡ some 0) × (signed (double (ofBits binary64 0x8000000000000000)) ≡ some (pos 0))
+  pub last-u64 : unsigned (double (ofBits binary64 0x43EFFFFFFFFFFFFF)) ≡ some (2 ^ 64 - 2048)
+  pub past-u64 : unsigned (double (ofBits binary64 0x43F0000000000000)) ≡ none
+  pub last-i64 : signed (double (ofBits binary64 0x43DFFFFFFFFFFFFF)) ≡ some (pos (2 ^ 63 - 1024))
+  pub past-i64 : signed (double (ofBits binary64 0x43E0000000000000)) ≡ none
+  pub least-i64 : signed (double (ofBits binary64 0xC3E0000000000000)) ≡ some (negℤ (pos (2 ^ 63)))
+  pub below-i64 : signed (double (ofBits binary64 0xC3E0000000000001)) ≡ none
+  -- 2.9 and 1.5 have a fraction, and so has the smallest double above 0
+  pub fractions : (signed (double (ofBits binary64 0x4007333333333333)) ≡ none) × (signed (double (ofBits binary64 0x3FF8000000000000)) ≡ none)
+  pub smallest : (unsigned (double (ofBits binary64 1)) ≡ none) × (signed (double (ofBits binary64 1)) ≡ none)
+  -- flags and stored whole numbers are read as they were, and doubles as doubles
+  pub flags-stay : (b : Bool) → (unsigned (flag b) ≡ some (oneIf b)) × (signed (flag b) ≡ some (pos (oneIf b)))
+  pub wholes-stay : (n : ℕ) → (n < 2 ^ 64 → unsigned (whole (pos n)) ≡ some n) × (n < 2 ^ 63 → signed (whole (pos n)) ≡ some (pos n))
+  pub below-stay : (n : ℕ) → (unsigned (whole (negsuc n)) ≡ none) × (n < 2 ^ 63 → signed (whole (negsuc n)) ≡ some (negsuc n))
+  pub doubles-stay : (x : Float) → float (double x) ≡ some x
+  -- in any tree of any bytes
+  pub in-fields : (s : List ℕ) (r : Range) (es : List Entry) → Tree s r es → CountsAsAbsent s es

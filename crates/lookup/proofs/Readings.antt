@@ -1,15 +1,16 @@
 -- The readings of values, by their kind. Assumes nothing.
-use Prim.Native.Nat.{ℕ, _<_}
+use Prim.Native.Nat.{ℕ, _^_, _<_}
 use mathlib.Core.Path.{_≡_, refl, ap, _∙_, subst}
-use mathlib.Core.Bool.{Bool}
+use mathlib.Core.Bool.{Bool, true, false}
 use mathlib.Core.Option.{Option, none, some}
 use mathlib.Core.List.{List, [], _∷_}
-use lib.Ieee.{Float, binary64, ofInt, toSigned}
+use lib.Ieee.{Float, binary64, ofInt}
 use lib.IntN.{ℤ, pos, negsuc}
+use borrow.Author.Tests.{lt-ltb}
 use denote.Enum.Declared.{tagOf}
 use types.Run.{OneOf, miss}
-use Rattle.format.specs.Numbers.{oneIf, unsigned, unsignedFloat, unsignedInt, signed, signedInt, float}
-use Rattle.format.specs.Values.{asLevel}
+use Rattle.format.specs.Numbers.{oneIf, unsigned, signed, float}
+use Rattle.format.specs.Values.{whole, double, asLevel, bind}
 use Rattle.format.specs.declared.Entry.{Entry}
 use Rattle.lookup.specs.Values.{meaning, Inside}
 use Rattle.lookup.specs.declared.ClxValue.{ClxValue}
@@ -37,19 +38,20 @@ module _ (s : List ℕ) (es : List Entry) where
   -- ---- an unsigned number
 
   pub unsigned-flag : (v : ClxValue) (b : Bool) (n : ℕ) → v ≡ clx.Flag b → n ≡ oneIf b → some n ≡ unsigned (meaning s es v)
-  unfolding meaning unsigned
-  unsigned-flag v b n h k = rw h (ap some k)
+  unfolding meaning unsigned bind
+  unsigned-flag v true n h k = rw h (ap some k)
+  unsigned-flag v false n h k = rw h (ap some k)
 
-  pub unsigned-whole : (v : ClxValue) (n : ℕ) → v ≡ clx.Whole n → some n ≡ unsigned (meaning s es v)
-  unfolding meaning unsigned unsignedInt
-  unsigned-whole v n h = rw h refl
+  pub unsigned-whole : (v : ClxValue) (n : ℕ) → n < 2 ^ 64 → v ≡ clx.Whole n → some n ≡ unsigned (meaning s es v)
+  unfolding meaning unsigned bind
+  unsigned-whole v n l h = rw (h, lt-ltb n (2 ^ 64) l) refl
 
-  pub unsigned-double : (v : ClxValue) (x : Float) (o : Option ℕ) → v ≡ clx.Double x → o ≡ unsignedFloat x → o ≡ unsigned (meaning s es v)
-  unfolding meaning unsigned
+  pub unsigned-double : (v : ClxValue) (x : Float) (o : Option ℕ) → v ≡ clx.Double x → o ≡ unsigned (double x) → o ≡ unsigned (meaning s es v)
+  unfolding meaning
   unsigned-double v x o h k = rw h k
 
   pub unsigned-other : (v : ClxValue) → OneOf (2 ∷ 4 ∷ 5 ∷ 6 ∷ 7 ∷ []) (tagOf the-type v) → none ≡ unsigned (meaning s es v)
-  unfolding meaning unsigned unsignedInt
+  unfolding meaning unsigned bind
   unsigned-other (clx.Flag b) h = absurd (miss (2 ∷ 4 ∷ 5 ∷ 6 ∷ 7 ∷ []) 0 tt h)
   unsigned-other (clx.Whole n) h = absurd (miss (2 ∷ 4 ∷ 5 ∷ 6 ∷ 7 ∷ []) 1 tt h)
   unsigned-other (clx.Below n) h = refl
@@ -62,23 +64,24 @@ module _ (s : List ℕ) (es : List Entry) where
   -- ---- a signed one
 
   pub signed-flag : (v : ClxValue) (b : Bool) (n : ℕ) → v ≡ clx.Flag b → n ≡ oneIf b → some (pos n) ≡ signed (meaning s es v)
-  unfolding meaning signed
-  signed-flag v b n h k = rw h (ap (λ (m : ℕ). some (pos m)) k)
+  unfolding meaning signed bind
+  signed-flag v true n h k = rw h (ap (λ (m : ℕ). some (pos m)) k)
+  signed-flag v false n h k = rw h (ap (λ (m : ℕ). some (pos m)) k)
 
-  pub signed-whole : (v : ClxValue) (n : ℕ) (o : Option ℤ) → v ≡ clx.Whole n → o ≡ signedInt (pos n) → o ≡ signed (meaning s es v)
-  unfolding meaning signed
+  pub signed-whole : (v : ClxValue) (n : ℕ) (o : Option ℤ) → v ≡ clx.Whole n → o ≡ signed (whole (pos n)) → o ≡ signed (meaning s es v)
+  unfolding meaning
   signed-whole v n o h k = rw h k
 
-  pub signed-below : (v : ClxValue) (n : ℕ) → v ≡ clx.Below n → some (negsuc n) ≡ signed (meaning s es v)
-  unfolding meaning signed signedInt
-  signed-below v n h = rw h refl
+  pub signed-below : (v : ClxValue) (n : ℕ) (o : Option ℤ) → v ≡ clx.Below n → o ≡ signed (whole (negsuc n)) → o ≡ signed (meaning s es v)
+  unfolding meaning
+  signed-below v n o h k = rw h k
 
-  pub signed-double : (v : ClxValue) (x : Float) (o : Option ℤ) → v ≡ clx.Double x → o ≡ some (toSigned 63 x) → o ≡ signed (meaning s es v)
-  unfolding meaning signed
+  pub signed-double : (v : ClxValue) (x : Float) (o : Option ℤ) → v ≡ clx.Double x → o ≡ signed (double x) → o ≡ signed (meaning s es v)
+  unfolding meaning
   signed-double v x o h k = rw h k
 
   pub signed-other : (v : ClxValue) → OneOf (4 ∷ 5 ∷ 6 ∷ 7 ∷ []) (tagOf the-type v) → none ≡ signed (meaning s es v)
-  unfolding meaning signed
+  unfolding meaning signed bind
   signed-other (clx.Flag b) h = absurd (miss (4 ∷ 5 ∷ 6 ∷ 7 ∷ []) 0 tt h)
   signed-other (clx.Whole n) h = absurd (miss (4 ∷ 5 ∷ 6 ∷ 7 ∷ []) 1 tt h)
   signed-other (clx.Below n) h = absurd (miss (4 ∷ 5 ∷ 6 ∷ 7 ∷ []) 2 tt h)

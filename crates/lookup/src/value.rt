@@ -152,7 +152,7 @@ pub fn as_i64(v: ClxValue) -> Integer
     match v {
         ClxValue::Flag(b) => Integer::Is(one_if(b)),
         ClxValue::Whole(n) => number::signed_whole(n),
-        ClxValue::Below(n) => Integer::Below(n),
+        ClxValue::Below(n) => number::signed_below(n),
         ClxValue::Double(x) => number::signed(x),
         _ => Integer::Absent,
     }

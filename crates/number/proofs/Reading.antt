@@ -97,3 +97,13 @@ infinite f s zero t e z = absurd (go (2 * emax f) e)
 infinite f s (suc x) t e z =
     ap (λ (b : Bool). cond b (cond (eqb t 0) (inf s) nan) (odd (prec f) s (hid f + t) x (low f))) (eq-eqb (suc x) (ones f) e)
     ∙ ap (λ (b : Bool). cond b (inf s) nan) (eq-eqb t 0 z)
+
+pub no-number : (f : Format) (s : Bool) (x t : ℕ) → x ≡ ones f → (t ≡ 0 → ⊥) → ofFields f s x t ≡ nan
+unfolding ofFields
+no-number f s zero t e z = absurd (go (2 * emax f) e)
+  where
+    go : (a : ℕ) → 0 ≡ a + 1 → ⊥
+    go a h = omega arith
+no-number f s (suc x) t e z =
+    ap (λ (b : Bool). cond b (cond (eqb t 0) (inf s) nan) (odd (prec f) s (hid f + t) x (low f))) (eq-eqb (suc x) (ones f) e)
+    ∙ ap (λ (b : Bool). cond b (inf s) nan) (ne-eqb t 0 z)

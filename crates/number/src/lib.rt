@@ -1,13 +1,15 @@
 // Number conversions, worked out from bits. A pattern is a sign, an exponent's field and the digits below the leading one: 1, 11
 // and 52 bits in an f64, 1, 8 and 23 in an f32.
 ghost use mathlib.Core.Path.{_≡_};
-ghost use mathlib.Core.Bool.{_&&_};
-ghost use mathlib.Core.Option.{some};
-ghost use Prim.Native.Nat.{ℕ, _+_, _^_, _<_, _≤_, min};
+ghost use mathlib.Core.Bool.{_&&_, cond};
+ghost use mathlib.Core.Option.{some, none};
+ghost use Prim.Native.Nat.{ℕ, _+_, _/_, _%_, _^_, _<_, _≤_};
+ghost use lib.Dec.{eqb};
 ghost use lib.IntN.{pos, negsuc, negℤ};
 ghost use lib.Ieee as Ieee;
 ghost use lib.Ieee.{binary32, binary64};
 ghost use lib.Ieee.Nearest.{closest};
+ghost use Rattle.format.specs.Values.{whole, double};
 ghost use Rattle.format.specs.Numbers as Numbers;
 ghost use Rattle.format.specs.Calibration as Calibration;
 ghost use Rattle.number.specs.Readings.{natural, integer, real};
@@ -96,58 +98,71 @@ pub fn magnitude(x: f64) -> f64
 
 // ---- to whole numbers
 
-// The whole part of a pattern that has no sign and is no NaN's, 2^64 - 1 at most.
-fn whole_part(bits: u64) -> u64
-    requires { ⌜ bits ≤ 0x7ff0_0000_0000_0000 ⌝ }
-    ensures { λ r. ⌜ r ≡ Ieee.toUnsigned 64 (Ieee.ofBits binary64 bits) ⌝ }
+// n / 2^shift, where that leaves nothing over.
+fn whole_quotient(n: u64, shift: u64) -> Natural
+    requires { ⌜ shift < 64 ⌝ }
+    ensures { λ r. ⌜ natural r ≡ cond (eqb (n % 2 ^ shift) 0) (some (n / 2 ^ shift)) none ⌝ }
+{
+    let whole = n >> shift;
+    if whole << shift == n {
+        Natural::Is(whole)
+    } else {
+        Natural::Absent
+    }
+}
+
+// The whole number that a pattern without a sign is. Absent: a fraction, 2^64 and above, an infinity, a NaN.
+fn whole_number(bits: u64) -> Natural
+    requires { ⌜ bits < 0x8000_0000_0000_0000 ⌝ }
+    ensures { λ r. ⌜ natural r ≡ Numbers.unsigned (double (Ieee.ofBits binary64 bits)) ⌝ }
 {
     let exponent = bits / LEADING;
     let digits = LEADING + bits % LEADING;
-    if exponent < 1023 {
-        0
+    if bits == 0 {
+        Natural::Is(0)
+    } else if exponent < 1023 {
+        Natural::Absent
     } else if exponent < 1076 {
-        digits >> (1075 - exponent)
+        whole_quotient(digits, 1075 - exponent)
     } else if exponent < 1087 {
-        digits << (exponent - 1075)
+        Natural::Is(digits << (exponent - 1075))
     } else {
-        0xffff_ffff_ffff_ffff
+        Natural::Absent
     }
 }
 
-// Below 0 or NaN is absent, -0 is 0; truncates and saturates.
+// The unsigned reading: what is below 0 is absent too, and -0 is 0.
 pub fn unsigned(x: f64) -> Natural
-    ensures { λ r. ⌜ natural r ≡ Numbers.unsignedFloat x ⌝ }
+    ensures { λ r. ⌜ natural r ≡ Numbers.unsigned (double x) ⌝ }
 {
     let bits = double_bits(x);
-    let rest = bits % SIGN;
-    if rest > INFINITE {
-        Natural::Absent
-    } else if bits > SIGN {
+    if bits > SIGN {
         Natural::Absent
     } else {
-        Natural::Is(whole_part(rest))
+        whole_number(bits % SIGN)
     }
 }
 
-// NaN is 0; truncates and saturates.
+// The signed reading: absent outside i64.
 pub fn signed(x: f64) -> Integer
-    ensures { λ r. ⌜ integer r ≡ some (Ieee.toSigned 63 x) ⌝ }
+    ensures { λ r. ⌜ integer r ≡ Numbers.signed (double x) ⌝ }
 {
     let bits = double_bits(x);
-    if bits % SIGN > INFINITE {
-        return Integer::Is(0);
-    }
-    let size = whole_part(bits % SIGN);
-    if bits < SIGN {
-        Integer::Is(at_most(size, SIGN - 1))
-    } else {
-        negated(at_most(size, SIGN))
+    match whole_number(bits % SIGN) {
+        Natural::Absent => Integer::Absent,
+        Natural::Is(n) => {
+            if bits < SIGN {
+                signed_whole(n)
+            } else {
+                negated(n)
+            }
+        }
     }
 }
 
-// A whole number from 2^63 on is absent.
+// The signed reading of a whole number: absent from 2^63 on.
 pub fn signed_whole(n: u64) -> Integer
-    ensures { λ r. ⌜ integer r ≡ Numbers.signedInt (pos n) ⌝ }
+    ensures { λ r. ⌜ integer r ≡ Numbers.signed (whole (pos n)) ⌝ }
 {
     if n < SIGN {
         Integer::Is(n)
@@ -156,19 +171,25 @@ pub fn signed_whole(n: u64) -> Integer
     }
 }
 
-fn at_most(n: u64, most: u64) -> u64
-    ensures { λ r. ⌜ r ≡ min n most ⌝ }
+// The signed reading of -1 - n: absent below -2^63.
+pub fn signed_below(n: u64) -> Integer
+    ensures { λ r. ⌜ integer r ≡ Numbers.signed (whole (negsuc n)) ⌝ }
 {
-    if n < most { n } else { most }
+    if n < SIGN {
+        Integer::Below(n)
+    } else {
+        Integer::Absent
+    }
 }
 
+// The signed reading of -n.
 fn negated(n: u64) -> Integer
-    ensures { λ r. ⌜ integer r ≡ some (negℤ (pos n)) ⌝ }
+    ensures { λ r. ⌜ integer r ≡ Numbers.signed (whole (negℤ (pos n))) ⌝ }
 {
     if n == 0 {
         Integer::Is(0)
     } else {
-        Integer::Below(n - 1)
+        signed_below(n - 1)
     }
 }
 

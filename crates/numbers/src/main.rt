@@ -107,6 +107,8 @@ fn whole(n: u64) {
     integer(number::signed_whole(n));
     text(b" below f64 ");
     hex_double(number::of_below(n));
+    text(b" signed ");
+    integer(number::signed_below(n));
     text(b"\n");
 }
 
@@ -141,8 +143,13 @@ fn kinds() {
     double(0x3fe0000000000000);
     double(0x3feccccccccccccd);
     double(0x3ffe666666666666);
+    double(0x3ff8000000000000);
+    double(0x4000000000000000);
+    double(0xc000000000000000);
     double(0x4007333333333333);
     double(0xc007333333333333);
+    double(0x3ff0000000000001);
+    double(0x3ca0000000000000);
     double(0x0000000000000001);
     double(0x8000000000000001);
     double(0x000fffffffffffff);
@@ -158,9 +165,12 @@ fn kinds() {
     double(0xfff0000000000001);
 }
 
-// Around 2^51, 2^53, 2^63 and 2^64, where fractions, gaps and the ends of the integers lie.
+// Around 2^32, 2^51, 2^53, 2^63 and 2^64, where fractions, gaps and the ends of the integers lie.
 fn large() {
+    double(0x41efffffffe00000);
+    double(0x41f0000000000000);
     double(0x4320000000000001);
+    double(0x432fffffffffffff);
     double(0x4330000000000001);
     double(0x433fffffffffffff);
     double(0x4340000000000000);

@@ -1,17 +1,14 @@
 -- "The grammar": the loops, as rules. i is the number of an experiment level's entry, and p that of its parameters.
 use Prim.Native.Nat.{ℕ, suc, _≤_, _<_, max}
 use mathlib.Core.Path.{_≡_}
-use mathlib.Core.Option.{none, some}
-use mathlib.Core.Logic.{_⊎_}
 use mathlib.Core.List.{List, [], _∷_, reverse}
 use lib.ListN.{take}
 use lib.IntN.{ℤ, pos}
 use Rattle.format.specs.Bytes.{ascii}
 use Rattle.format.specs.Values.{Value, level, list}
-use Rattle.format.specs.Numbers.{unsigned}
 use Rattle.format.specs.Loops.{mostCount, Built}
 use Rattle.format.specs.Grammar.Values.{ValueOf, Field, LevelsIn, SizeOf}
-use Rattle.format.specs.Grammar.Numbers.{Unsigned, Signed}
+use Rattle.format.specs.Grammar.Numbers.{ReadsUnsigned, Unsigned, Signed}
 use Rattle.format.specs.declared.Entry.{Entry}
 use Rattle.format.specs.declared.Axis.{Axis}
 use Rattle.format.specs.declared.Axis.the-variants.{T, Z, P}
@@ -67,8 +64,8 @@ module _ (s : List ℕ) (es : List Entry) where
   -- how many of these entries have an "unsigned reading [that] is there and not 0"
   pub data Valid : List ℕ → ℕ → Type 0 where
     no-more : Valid [] 0
-    set : {i m n : ℕ} {v : Value} {is : List ℕ} → ValueOf s es i v → unsigned v ≡ some (suc m) → Valid is n → Valid (i ∷ is) (suc n)
-    unset : {i n : ℕ} {v : Value} {is : List ℕ} → ValueOf s es i v → (unsigned v ≡ none) ⊎ (unsigned v ≡ some 0) → Valid is n → Valid (i ∷ is) n
+    set : {i m n : ℕ} {v : Value} {is : List ℕ} → ValueOf s es i v → ReadsUnsigned v (suc m) → Valid is n → Valid (i ∷ is) (suc n)
+    unset : {i n : ℕ} {v : Value} {is : List ℕ} → ValueOf s es i v → ((m : ℕ) → ReadsUnsigned v (suc m) → ⊥) → Valid is n → Valid (i ∷ is) n
 
   -- "type 2 counts elements or entries of Points, or with a list pItemValid (beside uLoopPars) those of its first that many whose unsigned reading
   -- is there and not 0; with no points, uiCount alone"

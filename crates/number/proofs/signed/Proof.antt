@@ -1,12 +1,14 @@
--- `signed`: a NaN is 0, else the whole part with its sign.
-use mathlib.Core.Path.{ap, _∙_}
+-- `signed`: what the pattern without its sign is, with the sign.
+use mathlib.Core.Path.{refl, sym, ap, _∙_}
 use mathlib.Core.Bool.{true, false}
-use mathlib.Core.Option.{some}
-use Prim.Native.Nat.{ℕ, _^_, _-_, min}
+use mathlib.Core.Option.{none, some}
+use Prim.Native.Nat.{_^_}
 use borrow.Author.Tests.{le-leb, lt-leb}
-use lib.IntN.{pos, negℤ}
-use lib.Ieee.{toSigned}
-use Rattle.number.proofs.Cutting.{signed-nan, signed-is}
+use lib.Ieee.{Float}
+use Rattle.format.specs.Values.{double}
+use Rattle.format.specs.Numbers.{signed}
+use Rattle.number.specs.Readings.{natural}
+use Rattle.number.proofs.Whole.{signed-is}
 use borrow.Author.Needs.{needs}
 use Rattle.number.proofs.signed.Statement.{statement}
 use Rattle.number.proofs.signed.Tie as tie
@@ -14,51 +16,55 @@ use Rattle.number.proofs.signed.Tie as tie
 double-bits-requires : tie.Need-double-bits-requires
 double-bits-requires c κs = search needs
 
-returns : tie.Need-returns
-returns c =
-    let d = c .before .double-bits in
-    ap some (signed-nan (d .result) (c .if1 .taken) ∙ ap (toSigned 63) (d .ensures .0))
+whole-number-requires : tie.Need-whole-number-requires
+whole-number-requires c κs = search needs
 
-whole-part-requires : tie.Need-whole-part-requires
-whole-part-requires c κs = search needs
+enum-told : tie.Need-enum-told
+enum-told c = search needs
 
-sub-at-most : tie.Need-sub-at-most
-sub-at-most c = search needs
+enum-known-n : tie.Need-enum-known-n
+enum-known-n c = search needs
 
-at-most-requires : tie.Need-at-most-requires
-at-most-requires c κs = search needs
-
-at-most-requires-2 : tie.Need-at-most-requires-2
-at-most-requires-2 c κs = search needs
+signed-whole-requires : tie.Need-signed-whole-requires
+signed-whole-requires c κs = search needs
 
 negated-requires : tie.Need-negated-requires
 negated-requires c κs = search needs
 
+returns : tie.Need-returns
+returns c =
+    let w = c .before .before .whole-number in
+    let d = c .before .before .before .double-bits in
+    signed-is (d .result) _ none refl (ap natural (sym (c .enum-told .given .1)) ∙ w .ensures) ∙ ap (λ (v : Float). signed (double v)) (d .ensures .0)
+
 returns-2 : tie.Need-returns-2
 returns-2 c =
-    let d = c .before .before .before .before .double-bits in
-    let w = c .before .before .whole-part in
-    ap (λ (k : ℕ). some (pos k)) (c .at-most .ensures ∙ ap (λ (u : ℕ). min u (2 ^ 63 - 1)) (w .ensures))
-    ∙ ap some (signed-is (d .result) (d .ok) (c .before .before .before .if1 .left) false (lt-leb (2 ^ 63) (d .result) (c .before .if2 .taken)) ∙ ap (toSigned 63) (d .ensures .0))
+    let n = c .before .before .before .n .given in
+    let w = c .before .before .before .before .before .whole-number in
+    let d = c .before .before .before .before .before .before .double-bits in
+    c .signed-whole .ensures
+    ∙ signed-is (d .result) false (some (n .0 .0)) (lt-leb (2 ^ 63) (d .result) (c .before .if1 .taken)) (ap natural (sym (n .1)) ∙ w .ensures)
+    ∙ ap (λ (v : Float). signed (double v)) (d .ensures .0)
 
 returns-3 : tie.Need-returns-3
 returns-3 c =
-    let d = c .before .before .before .before .before .double-bits in
-    let w = c .before .before .before .whole-part in
+    let n = c .before .before .before .n .given in
+    let w = c .before .before .before .before .before .whole-number in
+    let d = c .before .before .before .before .before .before .double-bits in
     c .negated .ensures
-    ∙ ap (λ (k : ℕ). some (negℤ (pos k))) (c .before .at-most2 .ensures ∙ ap (λ (u : ℕ). min u (2 ^ 63)) (w .ensures))
-    ∙ ap some (signed-is (d .result) (d .ok) (c .before .before .before .before .if1 .left) true (le-leb (2 ^ 63) (d .result) (c .before .before .if2 .left)) ∙ ap (toSigned 63) (d .ensures .0))
+    ∙ signed-is (d .result) true (some (n .0 .0)) (le-leb (2 ^ 63) (d .result) (c .before .if1 .left)) (ap natural (sym (n .1)) ∙ w .ensures)
+    ∙ ap (λ (v : Float). signed (double v)) (d .ensures .0)
 
 pub signed-spec : {M : Type 1} → statement M
 signed-spec =
     tie.close
     (tie.spec
     double-bits-requires
-    returns
-    whole-part-requires
-    sub-at-most
-    at-most-requires
-    at-most-requires-2
+    whole-number-requires
+    enum-told
+    enum-known-n
+    signed-whole-requires
     negated-requires
+    returns
     returns-2
     returns-3)

@@ -19,6 +19,9 @@ signed-whole-requires c κs = search needs
 enum-known-v-3 : tie.Need-enum-known-v-3
 enum-known-v-3 c = search needs
 
+signed-below-requires : tie.Need-signed-below-requires
+signed-below-requires c κs = search needs
+
 enum-known-v-4 : tie.Need-enum-known-v-4
 enum-known-v-4 c = search needs
 
@@ -32,7 +35,7 @@ returns-2 : tie.Need-returns-2
 returns-2 c = λ s es. signed-whole s es _ _ _ (c .before .before .v2 .given .1) (c .signed-whole .ensures)
 
 returns-3 : tie.Need-returns-3
-returns-3 c = λ s es. signed-below s es _ _ (c .before .v3 .given .1)
+returns-3 c = λ s es. signed-below s es _ _ _ (c .before .before .v3 .given .1) (c .signed-below .ensures)
 
 returns-4 : tie.Need-returns-4
 returns-4 c = λ s es. signed-double s es _ _ _ (c .before .before .v4 .given .1) (c .signed .ensures)
@@ -49,6 +52,7 @@ as-i64-spec =
     enum-known-v-2
     signed-whole-requires
     enum-known-v-3
+    signed-below-requires
     enum-known-v-4
     signed-requires
     returns

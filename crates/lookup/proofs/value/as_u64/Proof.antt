@@ -23,7 +23,7 @@ returns : tie.Need-returns
 returns c = λ s es. unsigned-flag s es _ _ _ (c .before .before .v .given .1) (c .one-if .ensures)
 
 returns-2 : tie.Need-returns-2
-returns-2 c = λ s es. unsigned-whole s es _ _ (c .before .v2 .given .1)
+returns-2 c = λ s es. unsigned-whole s es _ _ (c .known-told2 .given .0 .1) (c .before .v2 .given .1)
 
 returns-3 : tie.Need-returns-3
 returns-3 c = λ s es. unsigned-double s es _ _ _ (c .before .before .v3 .given .1) (c .unsigned .ensures)

@@ -1,0 +1,152 @@
+-- What a double that counts as absent means, field by field. Assumes nothing.
+use Prim.Native.Nat.{ℕ, suc, _^_}
+use mathlib.Core.Path.{_≡_, refl, sym, _∙_}
+use mathlib.Core.Logic.{_↔_}
+use mathlib.Core.Option.{Option, none, some, Option·some-inj}
+use mathlib.Core.List.{List, _∷_}
+use lib.IntN.{pos}
+use lib.Ieee.{Float}
+use Rattle.format.proofs.Answers.{none≢some, go-on, found}
+use Rattle.format.proofs.Rules.{no-such, none-of}
+use Rattle.format.proofs.Means.{Means}
+use Rattle.format.proofs.Wholes.{unsigned-of, signed-of, unsigned-absent, u32-absent, signed-absent, some-below}
+use Rattle.format.proofs.Fields.{field-in, level-in, level-at, unsigned-in, signed-in}
+use Rattle.format.specs.Answer.{Answer, given, refused, andThen, orRefuse, refuseIf}
+use Rattle.format.specs.Bytes.{ascii}
+use Rattle.format.specs.Refusals as why
+use Rattle.format.specs.Values.{double, level, field, fieldIn, asLevel, bind}
+use Rattle.format.specs.Numbers.{unsigned, signed, below32}
+use Rattle.format.specs.Attributes.{attributes, uncompressed}
+use Rattle.format.specs.Grammar.Values.{ValueOf, Field}
+use Rattle.format.specs.Grammar.Numbers.{ReadsUnsigned, NotUnsigned, NotSigned}
+use Rattle.format.specs.Grammar.Attributes.{Sized}
+use Rattle.format.specs.Grammar.Loops.{UiCount, unstated, SpectralCount, preferred, plain, PlanesCount, Valid, set, unset, Stops, no-type}
+use Rattle.format.specs.Grammar.Calibration.{StepOf, stated, spanned, NoStep}
+use Rattle.format.specs.Grammar.Channels.{Colored, no-color, Covers, unsaid}
+use Rattle.format.specs.Requests.{SizeField, width, row-bytes, height, components, bits, CountsAsAbsent}
+use Rattle.format.specs.declared.Entry.{Entry}
+use Rattle.format.specs.declared.Attributes.{Attributes}
+
+-- ---- a chain that has to find several things
+
+missing-here : {A B : Type 0} (o : Option A) (n : ℕ) (k : A → Answer B) → o ≡ none → andThen (orRefuse o n) k ≡ refused n
+unfolding andThen orRefuse
+missing-here o n k e = rw e refl
+
+missing-later : {A B : Type 0} (o : Option A) (n : ℕ) (k : A → Answer B) → ((a : A) → k a ≡ refused n) → andThen (orRefuse o n) k ≡ refused n
+unfolding andThen orRefuse
+missing-later none n k f = refl
+missing-later (some a) n k f = f a
+
+module _ (s : List ℕ) (es : List Entry) (M : Means s es) where
+  -- ---- a field that is a double, read
+
+  unsigned-lost : (i : ℕ) {u : ℕ} {name : List ℕ} (x : Float) → Field s es (suc i) (u ∷ name) (double x) → NotUnsigned (2 ^ 64) x
+      → bind (fieldIn s es i (u ∷ name)) unsigned ≡ none
+  unfolding bind
+  unsigned-lost i x f y = rw (field-in s es M i .only (double x) f) (unsigned-absent x .0 y)
+
+  u32-lost : (i : ℕ) {u : ℕ} {name : List ℕ} (x : Float) → Field s es (suc i) (u ∷ name) (double x) → NotUnsigned (2 ^ 32) x
+      → below32 (bind (fieldIn s es i (u ∷ name)) unsigned) ≡ none
+  unfolding bind
+  u32-lost i x f y = rw (field-in s es M i .only (double x) f) (u32-absent x .0 y)
+
+  signed-lost : (i : ℕ) {u : ℕ} {name : List ℕ} (x : Float) → Field s es (suc i) (u ∷ name) (double x) → NotSigned x
+      → bind (fieldIn s es i (u ∷ name)) signed ≡ none
+  unfolding bind
+  signed-lost i x f y = rw (field-in s es M i .only (double x) f) (signed-absent x .0 y)
+
+  -- ---- the attributes
+
+  level-found : (i : ℕ) → Field s es 0 (ascii "SLxImageAttributes") (level i)
+      → orRefuse (asLevel (field s es 0 (ascii "SLxImageAttributes"))) why.missing ≡ given i
+  unfolding ascii
+  level-found i there = found _ _ i (level-at s es M 0 .only i there)
+
+  size-missing : (i : ℕ) (name : List ℕ) (limit : ℕ) (x : Float) → Field s es 0 (ascii "SLxImageAttributes") (level i) → SizeField name limit
+      → Field s es (suc i) name (double x) → NotUnsigned limit x → attributes s es ≡ refused why.missing
+  unfolding attributes ascii
+  size-missing i name limit x there width f y = go-on _ _ i (level-found i there) (missing-here _ _ _ (unsigned-lost i x f y))
+  size-missing i name limit x there row-bytes f y = go-on _ _ i (level-found i there) (missing-later _ _ _ λ w. missing-here _ _ _ (unsigned-lost i x f y))
+  size-missing i name limit x there height f y =
+      go-on _ _ i (level-found i there) (missing-later _ _ _ λ w. missing-later _ _ _ λ b. missing-here _ _ _ (unsigned-lost i x f y))
+  size-missing i name limit x there components f y =
+      go-on _ _ i (level-found i there)
+      (missing-later _ _ _ λ w. missing-later _ _ _ λ b. missing-later _ _ _ λ h. missing-here _ _ _ (unsigned-lost i x f y))
+  size-missing i name limit x there bits f y =
+      go-on _ _ i (level-found i there)
+      (missing-later _ _ _ λ w. missing-later _ _ _ λ b. missing-later _ _ _ λ h. missing-later _ _ _ λ c. missing-here _ _ _ (u32-lost i x f y))
+
+  compression-unstated : (i : ℕ) (a : Attributes) (x : Float) → Sized s es i a
+      → Field s es (suc i) (ascii "eCompression") (double x) → NotSigned x → attributes s es ≡ refused why.compression
+  unfolding attributes ascii uncompressed refuseIf
+  compression-unstated i a x y f z =
+      go-on _ _ i (level-found i (y .level-there))
+      (go-on _ _ (a .width) (found _ _ (a .width) (unsigned-in s es M i .only (a .width) (y .width)))
+      (go-on _ _ (a .stride) (found _ _ (a .stride) (unsigned-in s es M i .only (a .stride) (y .row)))
+      (go-on _ _ (a .height) (found _ _ (a .height) (unsigned-in s es M i .only (a .height) (y .height)))
+      (go-on _ _ (a .components) (found _ _ (a .components) (unsigned-in s es M i .only (a .components) (y .components)))
+      (go-on _ _ (a .bits) (found _ _ (a .bits) (some-below _ (a .bits) (unsigned-in s es M i .only (a .bits) (y .bits)) (y .bits-u32)))
+      (rw (signed-lost i x f z) refl))))))
+
+  -- ---- loops and the z step
+
+  type-stops : (i : ℕ) (x : Float) → Field s es (suc i) (ascii "eType") (double x) → NotSigned x → Stops s es i
+  unfolding ascii
+  type-stops i x f y = no-type (no-such _ (signed-in s es M i) (signed-lost i x f y))
+
+  type-no-step : (i : ℕ) (x : Float) → Field s es (suc i) (ascii "eType") (double x) → NotSigned x → NoStep s es i
+  unfolding ascii
+  type-no-step i x f y z (stated g h) = no-such _ (signed-in s es M i) (signed-lost i x f y) (pos 4) (g .kind)
+  type-no-step i x f y z (spanned g m c h hi lo) = no-such _ (signed-in s es M i) (signed-lost i x f y) (pos 4) (g .kind)
+
+  count-zero : (p : ℕ) (x : Float) → Field s es (suc p) (ascii "uiCount") (double x) → NotUnsigned (2 ^ 64) x → UiCount s es p 0
+  unfolding ascii
+  count-zero p x f y = unstated (no-such _ (unsigned-in s es M p) (unsigned-lost p x f y))
+
+  planes-give-way : (p q : ℕ) (x : Float) → Field s es (suc p) (ascii "pPlanes") (level q) → Field s es (suc q) (ascii "uiCount") (double x)
+      → NotUnsigned (2 ^ 64) x → (n : ℕ) → SpectralCount s es p n ↔ UiCount s es p n
+  unfolding ascii
+  planes-give-way p q x there f y n = (there-is, plain none-said)
+    where
+      none-said : (m : ℕ) → PlanesCount s es p m → ⊥
+      none-said m c =
+          let e : c .planes ≡ q = Option·some-inj .0 (sym (level-in s es M p .only (c .planes) (c .there)) ∙ level-in s es M p .only q there) in
+          no-such _ (unsigned-in s es M q) (unsigned-lost q x f y) m (rw e at (c .count))
+
+      there-is : SpectralCount s es p n → UiCount s es p n
+      there-is (preferred c) = absurd (none-said n c)
+      there-is (plain g c) = c
+
+  not-valid : (j : ℕ) (x : Float) → ValueOf s es j (double x) → NotUnsigned (2 ^ 64) x → (is : List ℕ) (n : ℕ) → Valid s es (j ∷ is) n ↔ Valid s es is n
+  not-valid j x v y is n = (there n, λ w. unset v (λ m. none-read (suc m)) w)
+    where
+      none-read : (m : ℕ) → ReadsUnsigned (double x) m → ⊥
+      none-read = no-such _ (unsigned-of (double x)) (unsigned-absent x .0 y)
+
+      there : (n : ℕ) → Valid s es (j ∷ is) n → Valid s es is n
+      there n (set {m = m} {v = w} u r z) = absurd (none-read (suc m) (rw (sym (M .of-value j w u) ∙ M .of-value j (double x) v) at r))
+      there n (unset u r z) = z
+
+  -- ---- a plane's record
+
+  color-lost : (i : ℕ) (x : Float) → Field s es (suc i) (ascii "uiColor") (double x) → NotUnsigned (2 ^ 32) x → Colored s es i 0 0 0 0
+  unfolding ascii
+  color-lost i x f y = no-color λ v u h. none≢some (sym (u32-lost i x f y) ∙ some-below _ v (unsigned-in s es M i .only v u) h)
+
+  covers-one : (i : ℕ) (x : Float) → Field s es (suc i) (ascii "uiCompCount") (double x) → NotUnsigned (2 ^ 64) x → Covers s es i 1
+  unfolding ascii
+  covers-one i x f y = unsaid (no-such _ (unsigned-in s es M i) (unsigned-lost i x f y))
+
+  pub counts-as-absent : CountsAsAbsent s es
+  counts-as-absent = record {
+    size-missing = size-missing;
+    compression-unstated = compression-unstated;
+    type-stops = type-stops;
+    type-no-step = type-no-step;
+    count-zero = count-zero;
+    planes-give-way = planes-give-way;
+    not-valid = not-valid;
+    no-color = color-lost;
+    covers-one = covers-one;
+  }
