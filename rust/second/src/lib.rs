@@ -2,7 +2,7 @@
 //!
 //! Written from the documents (docs/DIFFERENCES.md says what else was at hand), so that the proved reader and the original
 //! can be held against it. One file for each of document 01's headings; `calls` has the calls themselves. Of document 02 it
-//! has the first change request, in `channels`, and the second, in `sheets`.
+//! has the first change request, in `channels`, the second, in `sheets`, and the fourth, in `numbers`.
 
 pub mod attributes;
 pub mod bytes;

@@ -1,24 +1,39 @@
-//! Number conversions. IEEE 754 rules them: Rust's `as` from a double truncates and saturates and gives 0 for NaN, and
-//! `as f64` and `as f32` round to nearest, ties to even.
+//! Number conversions. IEEE 754 rules them: `as f64` and `as f32` round to nearest, ties to even. A double that is read as
+//! a whole number has to be one, so that Rust's `as` from it drops no fraction and meets no limit.
 
 use crate::values::{Level, Value};
 
-/// "Unsigned reading: below 0 or NaN is absent (−0 is 0), doubles truncate and saturate." "Flags read as 0 or 1."
+/// 2^63 and 2^64, of which each is a double.
+const TWO_63: f64 = 9_223_372_036_854_775_808.0;
+const TWO_64: f64 = 18_446_744_073_709_551_616.0;
+
+/// Whether a double has no fraction. NaN is no number and equal to nothing; an infinity is outside every range.
+fn whole(number: f64) -> bool {
+    number.trunc() == number
+}
+
+/// "Attributes", the unsigned reading, as change request 4, "No more fractions as whole numbers", has it: a double counts
+/// where it is a whole number of u64, and −0 is 0; any other is as good as not there. Flags are 0 or 1.
 pub fn unsigned(value: &Value) -> Option<u64> {
     match *value {
         Value::Flag(flag) => Some(flag as u64),
         Value::Whole(number) => u64::try_from(number).ok(),
-        Value::Double(number) if number >= 0.0 => Some(number as u64),
+        Value::Double(number) if whole(number) && (0.0..TWO_64).contains(&number) => {
+            Some(number as u64)
+        }
         _ => None,
     }
 }
 
-/// "Signed reading (eCompression, eType) truncates and saturates, NaN is 0, u64 from 2^63 is absent."
+/// "Attributes", the signed reading (eCompression, eType), as change request 4 has it: a double counts where it is a whole
+/// number of i64. Whole numbers from 2^63 up are not there.
 pub fn signed(value: &Value) -> Option<i64> {
     match *value {
         Value::Flag(flag) => Some(flag as i64),
         Value::Whole(number) => i64::try_from(number).ok(),
-        Value::Double(number) => Some(number as i64),
+        Value::Double(number) if whole(number) && (-TWO_63..TWO_63).contains(&number) => {
+            Some(number as i64)
+        }
         _ => None,
     }
 }

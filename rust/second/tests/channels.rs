@@ -149,9 +149,11 @@ fn flags_and_doubles() {
     assert_eq!(saying(flag(COUNT, 3)), "ab--");
     assert_eq!(saying(flag(COUNT, 0)), "ab--");
     assert_eq!(saying(f64(COUNT, 3.0)), "aaab");
-    assert_eq!(saying(f64(COUNT, 2.9)), "aab-");
+    assert_eq!(saying(f64(COUNT, -0.0)), "ab--");
+    assert_eq!(saying(f64(COUNT, 2.9)), "ab--");
     assert_eq!(saying(f64(COUNT, 0.9)), "ab--");
-    assert_eq!(saying(f64(COUNT, 1e300)), "aaaa");
+    assert_eq!(saying(f64(COUNT, 1e19)), "aaaa");
+    assert_eq!(saying(f64(COUNT, 1e300)), "ab--");
 }
 
 #[test]
@@ -224,7 +226,10 @@ fn planes_that_say_one_or_nothing() {
     for record in [
         u32(COUNT, 1),
         flag(COUNT, 3),
-        f64(COUNT, 1.9),
+        f64(COUNT, 1.0),
+        f64(COUNT, 2.9),
+        f64(COUNT, 0.5),
+        f64(COUNT, f64::INFINITY),
         i32(COUNT, -1),
         text(COUNT, "2"),
         u32("uiCompCounts", 2),
@@ -235,7 +240,8 @@ fn planes_that_say_one_or_nothing() {
         u32(COUNT, 0),
         u32(COUNT, 2),
         flag(COUNT, 0),
-        f64(COUNT, 0.5),
+        f64(COUNT, -0.0),
+        f64(COUNT, 2.0),
         u64(COUNT, u64::MAX),
     ] {
         assert!(!single(record));

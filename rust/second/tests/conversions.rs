@@ -9,18 +9,48 @@ use second::names::scalars;
 use second::numbers::{double, signed, unsigned};
 use second::values::Value;
 
+/// The largest double below 1, the smallest above 0, and the largest that has less than the usual digits.
+const BELOW_1: f64 = 1.0 - f64::EPSILON / 2.0;
+const SMALLEST: f64 = f64::from_bits(1);
+const SUBNORMAL: f64 = f64::from_bits((1 << 52) - 1);
+
+/// Doubles that are no whole number at all.
+fn not_whole() -> Vec<f64> {
+    let mut all = vec![0.5, BELOW_1, 1.5, 2.9, 1e-300, SMALLEST, SUBNORMAL];
+    all.extend([4_503_599_627_370_495.5, 1_000_000.000_000_1]);
+    all.extend([
+        f64::INFINITY,
+        f64::NAN,
+        f64::from_bits(0x7FF0_0000_0000_0001),
+    ]);
+    let negative: Vec<f64> = all.iter().map(|number| -number).collect();
+    all.extend(negative);
+    all
+}
+
+#[test]
+fn doubles_with_a_fraction_are_absent() {
+    for number in not_whole() {
+        let value = Value::Double(number);
+        assert_eq!((unsigned(&value), signed(&value)), (None, None), "{number}");
+    }
+}
+
 #[test]
 fn unsigned_readings() {
     let of = |number: f64| unsigned(&Value::Double(number));
-    assert_eq!(of(-0.5), None);
     assert_eq!(of(-0.0), Some(0));
-    assert_eq!(of(f64::NAN), None);
-    assert_eq!(of(f64::NEG_INFINITY), None);
-    assert_eq!(of(f64::INFINITY), Some(u64::MAX));
-    assert_eq!(of(2.9), Some(2));
-    assert_eq!(of(1.8446744073709552e19), Some(u64::MAX));
-    assert_eq!(of(1.844674407370955e19), Some(18446744073709549568));
+    assert_eq!(of(2.0), Some(2));
+    assert_eq!(of(-1.0), None);
+    assert_eq!(of(4_503_599_627_370_497.0), Some((1 << 52) + 1));
+    assert_eq!(of(9_007_199_254_740_994.0), Some((1 << 53) + 2));
+    assert_eq!(of(9_223_372_036_854_775_808.0), Some(1 << 63));
+    assert_eq!(of(-9_223_372_036_854_775_808.0), None);
+    assert_eq!(of(18_446_744_073_709_549_568.0), Some(u64::MAX - 2047));
+    assert_eq!(of(18_446_744_073_709_551_616.0), None);
+    assert_eq!(of(1e300), None);
     assert_eq!(unsigned(&Value::Whole(-1)), None);
+    assert_eq!(unsigned(&Value::Whole(u64::MAX as i128)), Some(u64::MAX));
     assert_eq!(unsigned(&Value::Flag(true)), Some(1));
     assert_eq!(unsigned(&Value::Text(0, 1)), None);
 }
@@ -28,10 +58,14 @@ fn unsigned_readings() {
 #[test]
 fn signed_readings() {
     let of = |number: f64| signed(&Value::Double(number));
-    assert_eq!(of(f64::NAN), Some(0));
-    assert_eq!(of(-2.9), Some(-2));
-    assert_eq!(of(1e30), Some(i64::MAX));
-    assert_eq!(of(-1e30), Some(i64::MIN));
+    assert_eq!(of(-0.0), Some(0));
+    assert_eq!(of(-2.0), Some(-2));
+    assert_eq!(of(-9_223_372_036_854_775_808.0), Some(i64::MIN));
+    assert_eq!(of(-9_223_372_036_854_777_856.0), None);
+    assert_eq!(of(9_223_372_036_854_774_784.0), Some(i64::MAX - 1023));
+    assert_eq!(of(9_223_372_036_854_775_808.0), None);
+    assert_eq!(of(1e30), None);
+    assert_eq!(of(-1e30), None);
     assert_eq!(signed(&Value::Whole(1 << 63)), None);
     assert_eq!(signed(&Value::Whole((1 << 63) - 1)), Some(i64::MAX));
     assert_eq!(signed(&Value::Flag(true)), Some(1));

@@ -109,6 +109,7 @@ fn colour() {
     assert_eq!(channels(&file), [color]);
 }
 
+/// The starred line of eCompression, as change request 4 has it now.
 #[test]
 fn compression() {
     let experiment = parts::experiment(&[]);
@@ -118,8 +119,25 @@ fn compression() {
             experiment.clone(),
         )
     };
-    assert!(open(&stated(2.9)).is_ok());
+    assert_eq!(open(&stated(2.9)), Err(COMPRESSION));
     assert_eq!(open(&stated(1.9)), Err(COMPRESSION));
+    assert!(open(&stated(2.0)).is_ok());
+}
+
+/// An eType of 1.5 is no loop, nor are those below it.
+#[test]
+fn type_with_a_fraction() {
+    let of = |kind: f64| {
+        let below = looped("b", POINTS, parts::counted(5), Vec::new());
+        let records = vec![
+            f64("eType", kind),
+            level("uLoopPars", parts::counted(2)),
+            level("ppNextLevelEx", vec![below]),
+        ];
+        opened(&with_experiment(level("SLxExperiment", records))).depth
+    };
+    assert_eq!(of(1.5), 0);
+    assert_eq!(of(1.0), 2);
 }
 
 /// The summary of a file with these parameters of a focus loop.

@@ -99,7 +99,7 @@ fn attributes() {
     assert_eq!(stated(u64("eCompression", 1 << 63)), Err(COMPRESSION));
     assert_eq!(stated(i32("eCompression", -2)), Err(COMPRESSION));
     assert_eq!(stated(u32("uiComp", 1025)), Err(FRAME_SHAPE));
-    assert_eq!(stated(f64("uiHeight", f64::INFINITY)), Err(FRAME_SHAPE));
+    assert_eq!(stated(f64("uiHeight", f64::INFINITY)), Err(MISSING));
     let large = |width, height| {
         let mut sizes = Sizes::packed(width, height, 1, 8);
         sizes.stride = u64::MAX;
