@@ -1,6 +1,6 @@
 //! Writes ND2 files: trees record by record, chunks and the map (`tree`, `file`), the usual parts of a file (`parts`),
-//! whole rollers (`roller`), random files, good and damaged, from a seed (`random`), and files at the limits
-//! (`corner`).
+//! whole rollers (`roller`), random files, good and damaged, from a seed (`random`), files at the limits
+//! (`corner`), and files of single fields that are read as whole numbers (`whole`).
 
 pub mod corner;
 pub mod file;
@@ -9,6 +9,7 @@ pub mod random;
 pub mod rng;
 pub mod roller;
 pub mod tree;
+pub mod whole;
 
 pub use file::Nd2;
 pub use rng::Rng;

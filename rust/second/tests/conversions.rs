@@ -9,20 +9,12 @@ use second::names::scalars;
 use second::numbers::{double, signed, unsigned};
 use second::values::Value;
 
-/// The largest double below 1, the smallest above 0, and the largest that has less than the usual digits.
-const BELOW_1: f64 = 1.0 - f64::EPSILON / 2.0;
-const SMALLEST: f64 = f64::from_bits(1);
-const SUBNORMAL: f64 = f64::from_bits((1 << 52) - 1);
-
-/// Doubles that are no whole number at all.
+/// Doubles that are no whole number at all: fractions, large and small, and what is no number.
 fn not_whole() -> Vec<f64> {
-    let mut all = vec![0.5, BELOW_1, 1.5, 2.9, 1e-300, SMALLEST, SUBNORMAL];
-    all.extend([4_503_599_627_370_495.5, 1_000_000.000_000_1]);
-    all.extend([
-        f64::INFINITY,
-        f64::NAN,
-        f64::from_bits(0x7FF0_0000_0000_0001),
-    ]);
+    let mut all = vec![0.5, 1.0 - f64::EPSILON / 2.0, 1.5, 2.9, 1e-300];
+    all.extend([4_503_599_627_370_495.5, 1_000_000.000_000_1, f64::INFINITY]);
+    // the smallest and the largest subnormal, a quiet and a signalling NaN
+    all.extend([1, (1 << 52) - 1, 0x7FF8 << 48, (0x7FF0 << 48) + 1].map(f64::from_bits));
     let negative: Vec<f64> = all.iter().map(|number| -number).collect();
     all.extend(negative);
     all
