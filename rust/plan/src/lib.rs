@@ -1,5 +1,7 @@
 //! What is asked about one file.
 
+pub mod doubles;
+
 use sample::parts::{ATTRIBUTES, CALIBRATION, CHANNELS, EXPERIMENT};
 use sample::random::SPARE;
 use sample::Rng;

@@ -2,6 +2,7 @@
 
 mod attributes;
 mod damage;
+mod doubles;
 mod experiment;
 mod metadata;
 mod numbers;
@@ -55,14 +56,17 @@ fn scrap(rng: &mut Rng) -> Vec<u8> {
     bytes
 }
 
-/// All parts of a file, each at random.
+/// All parts of a file, each at random. What its doubles become is drawn aside: without any, it is what it would be.
 fn assembled(rng: &mut Rng, care: Care) -> Vec<u8> {
+    let aside = &mut rng.aside();
+    let doubles = doubles::random(aside);
     let (sizes, trees) = trees_of(rng, care);
     let mut file = Nd2::new();
     for (name, mut tree) in trees {
         if care != Care::Good {
             damage::tree(rng, &mut tree);
         }
+        doubles::settle(aside, doubles, name, &mut tree);
         let mut data = tree.encode();
         if care == Care::Broken && rng.one_in(5) {
             damage::bytes(rng, &mut data);
