@@ -5,6 +5,7 @@ use crate::check::{Check, Findings, Listed};
 use crate::original::{Answer, Original, Question};
 use crate::reader::{readers, Reader};
 use crate::tally::Tally;
+use plan::doubles::not_whole;
 use plan::{Plan, MOST_FRAMES};
 use sample::Rng;
 use second::{Axis, Summary};
@@ -74,14 +75,15 @@ impl Run {
 
     /// Compares all readers on one file. The questions are made from the second implementation's opening.
     pub fn case(&mut self, case: &Case) -> io::Result<()> {
-        let Some(open) = caught(|| second::calls::opened(&case.file, usize::MAX)) else {
+        let file = &case.file;
+        let Some(open) = caught(|| second::calls::opened(file, usize::MAX)) else {
             return self.report(case, "second", &["it panicked".to_string()]);
         };
-        let mut plan = Plan::new(&mut Rng::new(!case.seed), &case.file, &open);
+        let mut plan = Plan::new(&mut Rng::new(!case.seed), file, &open);
         if case.every_plane {
             plan.every_plane();
         }
-        let original = match self.asked_original(&case.file, &plan, &open)? {
+        let original = match self.asked_original(file, &plan, &open)? {
             Asked::Answered(answer) => Some(answer),
             Asked::Spared => None,
             Asked::BrokeOff => {
@@ -89,8 +91,12 @@ impl Run {
                 None
             }
         };
-        if let Some(Ok(map)) = original.as_ref().map(|answer| &answer.map) {
-            plan.map_at(*map);
+        let map = match &original {
+            Some(answer) => answer.map.as_ref().ok().copied(),
+            None => second::map::place(file).ok(),
+        };
+        if let Some(map) = map {
+            plan.map_at(map);
         }
         self.compare(case, &plan, original.as_deref())
     }
@@ -121,13 +127,18 @@ impl Run {
         Ok(())
     }
 
-    /// Asks the original, unless it would run out of memory or was asked enough of such files.
+    /// Asks the original, unless a double stands where a whole number is read and is none, which it reads by another rule
+    /// (`plan::doubles`), or it would run out of memory, or was asked enough of such files.
     fn asked_original(
         &mut self,
         file: &[u8],
         plan: &Plan,
         open: &Result<Summary, u32>,
     ) -> io::Result<Asked> {
+        if caught(|| not_whole(file)).is_some_and(|fields| !fields.is_empty()) {
+            self.tally.not_whole += 1;
+            return Ok(Asked::Spared);
+        }
         let scenes = open.map_or(1, |s| s.count(Axis::P));
         if scenes * plan.summary.components > MOST_COPIES {
             self.tally.listed(&mut vec![Listed::Memory]);

@@ -22,6 +22,8 @@ pub struct Tally {
     taken_sheets: u64,
     pub unlisted: u64,
     pub unasked: u64,
+    /// Files that the original was not asked about for their doubles.
+    pub not_whole: u64,
     empty_channels: u64,
     told_channels: u64,
     left_out_channels: u64,
@@ -90,6 +92,10 @@ impl Tally {
         println!(
             "not asked of the original, many scenes: {} files",
             self.unasked
+        );
+        println!(
+            "not asked of the original, a double where a whole number is read and that is none: {} files",
+            self.not_whole
         );
         self.print_channels();
         println!(
