@@ -3,7 +3,7 @@
 use crate::answer::State;
 use crate::questions::{about, all, channels_of};
 use crate::step::Step;
-use crate::{rules, sheets};
+use crate::{rules, sheets, whole};
 use sample::parts::{self, Sizes};
 use sample::{Nd2, Roller};
 use second::sheets::HEAD_BYTES;
@@ -29,6 +29,7 @@ pub fn steps() -> Vec<Step> {
     steps.extend(covered());
     steps.extend(random_files());
     steps.extend(sheets::all());
+    steps.extend(whole::all());
     steps
 }
 

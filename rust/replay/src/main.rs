@@ -5,9 +5,10 @@
 //!     cargo run --offline --release -p replay -- --check  says whether these are what would be written
 //!
 //! The list is made from seeds alone, so it is the same in every run: document 01's edges, files of single rules, small
-//! rollers with all their planes, files whose plane records cover several components, random files, good and damaged, and
-//! sheets, good and damaged (`list`, `rules` and `sheets` say which, `questions` what is asked about files, `step` how it
-//! is stored). A change of `sample` or of `plan` changes it: write it anew.
+//! rollers with all their planes, files whose plane records cover several components, random files, good and damaged,
+//! sheets, good and damaged, and every field that is read as a whole number with doubles at the limits (`list`, `rules`,
+//! `sheets` and `whole` say which, `questions` what is asked about files, `step` how it is stored). A change of `sample` or
+//! of `plan` changes it: write it anew.
 
 mod answer;
 mod list;
@@ -15,6 +16,7 @@ mod questions;
 mod rules;
 mod sheets;
 mod step;
+mod whole;
 
 use answer::State;
 use second::refusal::{SHEET_LAYOUT, SHEET_LONG};

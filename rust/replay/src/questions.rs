@@ -76,6 +76,24 @@ pub fn channels_of(label: &str, file: Vec<u8>) -> Vec<Step> {
     steps
 }
 
+/// A file opened with a table that is just large enough, and its channels, where it opens and has such a tree.
+pub fn in_short(label: &str, file: Vec<u8>) -> Vec<Step> {
+    let table = for_open(&file);
+    let opened = second::calls::opened(&file, usize::MAX).ok();
+    let told = opened.filter(|summary| second::calls::channel_root(&file, summary).is_ok());
+    let channels = told.map(|summary| {
+        let components = summary.components as usize;
+        Step::Channels {
+            table: for_channels(&file, &summary, components),
+            buffer: CHANNEL_BYTES * components,
+        }
+    });
+    let mut steps = vec![Step::Label(label.to_string()), Step::File(file)];
+    steps.push(Step::Open { table });
+    steps.extend(channels);
+    steps
+}
+
 /// The questions about a file, as a seed picks them; none where a table would be too large.
 pub fn all(label: &str, seed: u64, file: Vec<u8>) -> Option<Vec<Step>> {
     let open = second::calls::opened(&file, usize::MAX);

@@ -87,7 +87,7 @@ const fn signed(
     }
 }
 
-pub const FIELDS: [Field; 15] = [
+pub static FIELDS: [Field; 14] = [
     unsigned("uiWidth", "uiWidth", 2, |r| sized("uiWidth", r)),
     unsigned("uiWidthBytes", "uiWidthBytes", 2, |r| {
         sized("uiWidthBytes", r)
@@ -104,14 +104,16 @@ pub const FIELDS: [Field; 15] = [
     unsigned("uiCount", "uiCount", 2, counted),
     unsigned("pItemValid", "", 2, valid),
     unsigned("pPlanes.uiCount", "uiCount", 2, |r| spectral(3, r)),
-    unsigned("pPlanes.uiCount before 1,000,001", "uiCount", 2, |r| {
-        spectral(1_000_001, r)
-    }),
     signed("eType of z", "eType", FOCUS, z_typed),
     unsigned("uiCount of z", "uiCount", 2, z_counted),
     unsigned("uiColor", "uiColor", 2, colored),
     unsigned("uiCompCount", "uiCompCount", 2, covering),
 ];
+
+/// The planes' count of a spectral loop once more, beside a count that is too large: it shows that the planes' is taken.
+pub static PREFERRED: Field = unsigned("pPlanes.uiCount before 1,000,001", "uiCount", 2, |r| {
+    spectral(1_000_001, r)
+});
 
 /// One sample of so many components, with rows that have room for any.
 fn sizes(components: u64) -> Sizes {

@@ -4,7 +4,7 @@
 mod common;
 
 use common::*;
-use sample::whole::{Field, DOUBLES, FIELDS};
+use sample::whole::{Field, DOUBLES, FIELDS, PREFERRED};
 use second::{Axis, Channel, Summary};
 
 /// A field, what is told of a file that opens, what a file without the field gives, and what the doubles give that are
@@ -16,7 +16,7 @@ struct Row {
     taken: &'static [(&'static str, &'static str)],
 }
 
-const ROWS: [Row; 15] = [
+static ROWS: [Row; 15] = [
     Row {
         label: "uiWidth",
         told: |_, s| s.width.to_string() + " wide",
@@ -122,13 +122,6 @@ const ROWS: [Row; 15] = [
             ("2^64 - 2048", "16"),
         ],
     },
-    // uiCount in its place, which is too large.
-    Row {
-        label: "pPlanes.uiCount before 1,000,001",
-        told: loops,
-        absent: "16",
-        taken: &[("usual", "T 2"), ("-0.0", "no loop")],
-    },
     // The search goes on below.
     Row {
         label: "eType of z",
@@ -166,6 +159,13 @@ const ROWS: [Row; 15] = [
             ("2^63", "aaa"),
             ("2^64 - 2048", "aaa"),
         ],
+    },
+    // uiCount in its place, which is too large.
+    Row {
+        label: "pPlanes.uiCount before 1,000,001",
+        told: loops,
+        absent: "16",
+        taken: &[("usual", "T 2"), ("-0.0", "no loop")],
     },
 ];
 
@@ -205,6 +205,11 @@ fn names(file: &[u8], _: &Summary) -> String {
         _ => file[channel.name as usize] as char,
     };
     channels(file).iter().map(letter).collect()
+}
+
+/// The fields and their rows.
+fn fields() -> impl Iterator<Item = (&'static Row, &'static Field)> {
+    ROWS.iter().zip(FIELDS.iter().chain([&PREFERRED]))
 }
 
 fn told(row: &Row, file: &[u8]) -> String {
@@ -257,9 +262,10 @@ fn answers(file: &[u8]) -> (Result<Summary, u32>, Vec<Channel>) {
 
 #[test]
 fn rows_are_of_all_fields() {
-    let labels: Vec<&str> = ROWS.iter().map(|row| row.label).collect();
-    let fields: Vec<&str> = FIELDS.iter().map(|field| field.label).collect();
-    assert_eq!(labels, fields);
+    assert_eq!(ROWS.len(), FIELDS.len() + 1);
+    for (row, field) in fields() {
+        assert_eq!(row.label, field.label);
+    }
     for label in ROWS.iter().flat_map(|row| row.taken).map(|t| t.0) {
         assert!(label == "usual" || DOUBLES.iter().any(|d| d.0 == label));
     }
@@ -277,14 +283,14 @@ fn doubles_are_what_they_are_called() {
 
 #[test]
 fn fields_that_are_left_out() {
-    for (row, field) in ROWS.iter().zip(&FIELDS) {
+    for (row, field) in fields() {
         assert_eq!(told(row, &field.without()), row.absent, "{}", row.label);
     }
 }
 
 #[test]
 fn doubles_of_every_field() {
-    for (row, field) in ROWS.iter().zip(&FIELDS) {
+    for (row, field) in fields() {
         for (label, bits) in doubles(field) {
             let taken = row.taken.iter().find(|t| t.0 == label);
             let expected = taken.map_or(row.absent, |t| t.1);
@@ -296,7 +302,7 @@ fn doubles_of_every_field() {
 
 #[test]
 fn as_the_whole_number_or_as_none() {
-    for field in &FIELDS {
+    for (_, field) in fields() {
         for (label, bits) in doubles(field) {
             let file = field.with_double(bits);
             let same = match whole(field, label) {
@@ -311,7 +317,7 @@ fn as_the_whole_number_or_as_none() {
 /// A whole number that is stored as one counts as before.
 #[test]
 fn whole_numbers_that_are_stored() {
-    for (row, field) in ROWS.iter().zip(&FIELDS) {
+    for (row, field) in fields() {
         let usual = row.taken.iter().find(|t| t.0 == "usual");
         let expected = usual.map_or(row.absent, |t| t.1);
         let file = field.with_whole(i128::from(field.usual));
@@ -321,7 +327,7 @@ fn whole_numbers_that_are_stored() {
 
 /// The row of a label and what a double gives there.
 fn at(label: &str, number: f64) -> String {
-    let found = ROWS.iter().zip(&FIELDS).find(|(row, _)| row.label == label);
+    let found = fields().find(|(row, _)| row.label == label);
     let (row, field) = found.expect("a field of that label");
     told(row, &field.with_double(number.to_bits()))
 }
@@ -343,7 +349,7 @@ fn limits_of_u32() {
 /// Fractions beside numbers that a field would take.
 #[test]
 fn fractions_beside_whole_numbers() {
-    for (row, field) in ROWS.iter().zip(&FIELDS) {
+    for (row, field) in fields() {
         let usual = f64::from(field.usual);
         for number in [usual - 0.1, usual + 0.1, usual + 0.9, -0.5, -usual - 0.5] {
             let file = field.with_double(number.to_bits());
