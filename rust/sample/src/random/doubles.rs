@@ -65,12 +65,19 @@ pub fn settle(rng: &mut Rng, doubles: Doubles, chunk: &str, tree: &mut Record) {
     collect(std::slice::from_mut(tree), false, &mut fields);
     match doubles {
         Doubles::Whole => fields.iter_mut().for_each(|field| field.make_whole(rng)),
-        Doubles::Any if !fields.is_empty() && rng.one_in(2) => {
-            let at = rng.place(fields.len());
-            fields[at].make_double(rng);
-        }
+        Doubles::Any if !fields.is_empty() && rng.one_in(2) => pick(rng, fields).make_double(rng),
         Doubles::Any => {}
     }
+}
+
+/// One of some fields, by its name first: each name comes as often as another.
+fn pick<'a>(rng: &mut Rng, mut fields: Vec<Field<'a>>) -> Field<'a> {
+    let mut names: Vec<Vec<u16>> = fields.iter().map(|f| f.record.name.clone()).collect();
+    names.sort();
+    names.dedup();
+    let name = &names[rng.place(names.len())];
+    fields.retain(|field| field.record.name == *name);
+    fields.swap_remove(rng.place(fields.len()))
 }
 
 /// The fields among records and below them; unnamed ones of a list count too.
@@ -130,10 +137,9 @@ impl Field<'_> {
         self.put(f64("", rng.pick(&all)));
     }
 
-    fn make_double(&mut self, rng: &mut Rng) {
+    fn make_double(mut self, rng: &mut Rng) {
         let (_, limit) = rng.pick(&DOUBLES);
-        let fraction = rng.pick(&[1.5f64, 2.9, 4.5, 16.25, -0.5]).to_bits();
-        let bits = rng.pick(&[limit, limit, fraction]);
-        self.put(double_bits("", bits));
+        let fraction = rng.pick(&[1.5f64, 2.9, 3.25, 4.5, 16.1]).to_bits();
+        self.put(double_bits("", rng.pick(&[limit, fraction])));
     }
 }
