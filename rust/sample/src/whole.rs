@@ -79,11 +79,8 @@ const fn signed(
     file: fn(Option<Record>) -> Vec<u8>,
 ) -> Field {
     Field {
-        label,
-        name,
         signed: true,
-        usual,
-        file,
+        ..unsigned(label, name, usual, file)
     }
 }
 

@@ -56,7 +56,7 @@ fn scrap(rng: &mut Rng) -> Vec<u8> {
     bytes
 }
 
-/// All parts of a file, each at random. What its doubles become is drawn aside: without any, it is what it would be.
+/// All parts of a file, each at random. What becomes of its doubles is drawn aside, so that nothing else moves by it.
 fn assembled(rng: &mut Rng, care: Care) -> Vec<u8> {
     let aside = &mut rng.aside();
     let doubles = doubles::random(aside);
