@@ -15,9 +15,10 @@ use Rattle.format.specs.Grammar.File.{Joined}
 use Rattle.format.specs.Refused.Order.{FirstAt}
 use Rattle.format.specs.Refused.Open.{OpenRefusal, openOrder}
 use Rattle.format.specs.Refused.Summary.{Sound}
-use Rattle.format.specs.Sentences.{Refuses, OpensExactly, Different}
+use Rattle.format.specs.Sentences.{Refuses, OpensExactly, Different, WholeNeeded, WholeTyped}
 use Rattle.format.specs.declared.Summary.{Summary}
 use Rattle.format.proofs.Demands.{first, third}
+use Rattle.format.proofs.Requests.{whole-numbers}
 use Rattle.layout.specs.Layout.{summaryBytes, summaryFrom}
 use Rattle.capi.specs.OnBytes.{openOn}
 use Rattle.capi.specs.Said.{Said}
@@ -27,6 +28,14 @@ never : {A : Type 0} {n : ℕ} → Refuses n → n ≡ 0 → A
 never f q = absurd (f q)
 
 module _ (file table b : List ℕ) where
+  -- no double that counts as absent was taken
+  abbrev Whole : ℕ → List ℕ → Type 0
+  Whole n out = WholeNeeded file n × (n ≡ 0 → Said out (WholeTyped file))
+
+  -- a refused opening took none
+  refused-whole : {n : ℕ} (out : List ℕ) → Refuses n → Whole n out
+  refused-whole out f = ((λ es i name x t there s y. f), never f)
+
   -- the call's number, table and summary, and the sentences that follow
   abbrev pub Promised : ℕ → List ℕ → List ℕ → Type 0
   Promised n left out =
@@ -34,14 +43,14 @@ module _ (file table b : List ℕ) where
       × ((Refuses n → out ≡ zeros (length b)) × ((n ≡ 0 → summaryFrom out ≡ some (openCall file table .summary))
       × ((length b ≡ 144 → OpensExactly file (roomIn (length table)) n) × (((length b ≡ 144 → ⊥) → n ≡ 20)
       × ((n ≡ 0 → Said out (Joined file)) × ((n ≡ 0 → Said out (Sound file)) × ((n ≡ 0 → Said out (λ u. Different (loopsOf u)))
-      × (length b ≡ 144 → FirstAt (OpenRefusal file (roomIn (length table))) openOrder n))))))))))
+      × ((length b ≡ 144 → FirstAt (OpenRefusal file (roomIn (length table))) openOrder n) × Whole n out))))))))))
 
   pub refused-length : {left out : List ℕ} → (length b ≡ 144 → ⊥) → left ≡ zeros (length table) → out ≡ zeros (length b) → Promised why.summary left out
   unfolding openOn
   refused-length f l z =
       let no : Refuses why.summary = λ q. omega arith in
       let number : why.summary ≡ openOn file table b = rw (ne-eqb (length b) 144 f) refl in
-      (number, (l, (never no, ((λ _. z), (never no, ((λ q. absurd (f q)), ((λ _. refl), (never no, (never no, (never no, λ q. absurd (f q)))))))))))
+      (number, (l, (never no, ((λ _. z), (never no, ((λ q. absurd (f q)), ((λ _. refl), (never no, (never no, (never no, ((λ q. absurd (f q)), refused-whole _ no)))))))))))
 
   -- the bytes have a summary's length, so that the number is the opening's
   module _ (long : length b ≡ 144) {n : ℕ} (e : n ≡ openCall file table .number) {left : List ℕ} (l : left ≡ zeros (length table)) where
@@ -60,7 +69,8 @@ module _ (file table b : List ℕ) where
     opened-stored {out = out} q z w s =
         let o : openCall file table .number ≡ 0 = sym e ∙ z in
         let said : summaryFrom out ≡ some (openCall file table .summary) = s ∙ ap some q in
-        let sound = third .opened-sound file table o in (
+        let sound = third .opened-sound file table o in
+        let whole : Whole n out = (rw e (whole-numbers .open-whole file table), λ _. (_, said, whole-numbers .open-typed file table o)) in (
           numbered,
           (
             l,
@@ -76,7 +86,7 @@ module _ (file table b : List ℕ) where
                       (λ f. absurd (f long)),
                       (
                         (λ _. (_, said, third .returns-theirs file table o)),
-                        ((λ _. (_, said, sound)), ((λ _. (_, said, third .frames-different file _ sound)), λ _. in-order)),
+                        ((λ _. (_, said, sound)), ((λ _. (_, said, third .frames-different file _ sound)), ((λ _. in-order), whole))),
                       ),
                     ),
                   ),
@@ -88,4 +98,4 @@ module _ (file table b : List ℕ) where
 
     pub refused-opening : {out : List ℕ} → Refuses n → out ≡ zeros (length b) → Promised n left out
     refused-opening f z =
-        (numbered, (l, (never f, ((λ _. z), (never f, ((λ _. exactly), ((λ g. absurd (g long)), (never f, (never f, (never f, λ _. in-order))))))))))
+        (numbered, (l, (never f, ((λ _. z), (never f, ((λ _. exactly), ((λ g. absurd (g long)), (never f, (never f, (never f, ((λ _. in-order), refused-whole _ f)))))))))))

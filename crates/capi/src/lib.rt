@@ -35,7 +35,7 @@ ghost use Rattle.format.specs.Refused.Sheet.{SheetRefusal, sheetOrder, SheetRea
 ghost use Rattle.format.specs.Refused.Tree.{TreeRefusal, treeOrder};
 ghost use Rattle.format.specs.Refused.Channels.{ChannelsRefusal, channelsOrder};
 ghost use Rattle.format.specs.Refused.Register.{RegisterRefusal, registerOrder, Registered};
-ghost use Rattle.format.specs.Sentences.{Refuses, AcceptedUnless, OpensExactly, Different, PlaneCopied, TreeEntered};
+ghost use Rattle.format.specs.Sentences.{Refuses, AcceptedUnless, OpensExactly, Different, PlaneCopied, TreeEntered, WholeNeeded, WholeTyped};
 ghost use Rattle.format.specs.Sentences.{SheetWritten, PlaneOn, SheetTaken, TurnedAway, ZeroSizes};
 ghost use Rattle.channels.specs.Ahead.{ahead, Stands};
 ghost use Rattle.layout.specs.Layout.{summaryBytes, summaryFrom, channelRowBytes};
@@ -58,6 +58,8 @@ pub extern "C" fn nd2_open(file: &[u8], table: &mut [u8], summary: &mut [u8]) ->
     ensures different { λ r. ⌜ (r ≡ 0 → Said (now (summary .exit)) (λ u. Different (loopsOf u))) ⌝ }
     ensures first { λ r. ⌜ (length (now (summary .entry)) ≡ 144
         → FirstAt (OpenRefusal (now (file .entry)) (roomIn (length (now (table .entry))))) openOrder r) ⌝ }
+    ensures whole { λ r. ⌜ WholeNeeded (now (file .entry)) r ⌝ }
+    ensures typed { λ r. ⌜ (r ≡ 0 → Said (now (summary .exit)) (WholeTyped (now (file .entry)))) ⌝ }
 {
     clear(summary);
     if summary.len() != SUMMARY_BYTES {

@@ -2,29 +2,43 @@
 use Prim.Native.Nat.{ℕ, suc, _^_}
 use mathlib.Core.Path.{_≡_, refl, sym, _∙_}
 use mathlib.Core.Logic.{_↔_}
-use mathlib.Core.Option.{Option, none, some, Option·some-inj}
-use mathlib.Core.List.{List, _∷_}
+use mathlib.Core.Option.{Option, none, some}
+use mathlib.Core.List.{List, [], _∷_, reverse}
 use lib.IntN.{pos}
 use lib.Ieee.{Float}
 use Rattle.format.proofs.Answers.{none≢some, go-on, found}
-use Rattle.format.proofs.Rules.{no-such, none-of}
+use Rattle.format.proofs.Rules.{no-such, only-one}
 use Rattle.format.proofs.Means.{Means}
-use Rattle.format.proofs.Wholes.{unsigned-of, signed-of, unsigned-absent, u32-absent, signed-absent, some-below}
+use Rattle.format.proofs.Named.{tree-means}
+use Rattle.format.proofs.OpenParts.{tree-at-unique}
+use Rattle.format.proofs.Demands.{third}
+use Rattle.format.proofs.Wholes.{unsigned-of, unsigned-absent, u32-absent, signed-absent, some-below}
 use Rattle.format.proofs.Fields.{field-in, level-in, level-at, unsigned-in, signed-in}
 use Rattle.format.specs.Answer.{Answer, given, refused, andThen, orRefuse, refuseIf}
 use Rattle.format.specs.Bytes.{ascii}
+use Rattle.format.specs.Chunks.{dataIn}
+use Rattle.format.specs.Loops.{Built}
 use Rattle.format.specs.Refusals as why
 use Rattle.format.specs.Values.{double, level, field, fieldIn, asLevel, bind}
 use Rattle.format.specs.Numbers.{unsigned, signed, below32}
 use Rattle.format.specs.Attributes.{attributes, uncompressed}
 use Rattle.format.specs.Grammar.Values.{ValueOf, Field}
 use Rattle.format.specs.Grammar.Numbers.{ReadsUnsigned, NotUnsigned, NotSigned}
-use Rattle.format.specs.Grammar.Attributes.{Sized}
+use Rattle.format.specs.Grammar.Attributes.{Sized, AttributesOf}
+use Rattle.format.specs.Grammar.Loops.{LoopAt, Walks, done, stops, spectral, appends, OnAxes, LoopsOf}
 use Rattle.format.specs.Grammar.Loops.{UiCount, unstated, SpectralCount, preferred, plain, PlanesCount, Valid, set, unset, Stops, no-type}
-use Rattle.format.specs.Grammar.Calibration.{StepOf, stated, spanned, NoStep}
+use Rattle.format.specs.Grammar.Calibration.{stated, spanned, NoStep}
 use Rattle.format.specs.Grammar.Channels.{Colored, no-color, Covers, unsaid}
-use Rattle.format.specs.Requests.{SizeField, width, row-bytes, height, components, bits, CountsAsAbsent}
+use Rattle.format.specs.Requests.{CountsAsAbsent}
+use Rattle.format.specs.Sentences.{SizeField, width, row-bytes, height, components, bits, NotStated, size, compression, WholeNeeded, WholeTyped}
+use Rattle.format.specs.Grammar.Map.{Named}
+use Rattle.format.specs.Grammar.File.{Joined}
+use Rattle.format.specs.Refused.Open.{Needed, needed, ChunkAt, TreeAt}
+use Rattle.format.specs.Calls.Open.{openCall}
+use Rattle.format.specs.declared.Range.{Range}
 use Rattle.format.specs.declared.Entry.{Entry}
+use Rattle.format.specs.declared.Loop.{Loop}
+use Rattle.format.specs.declared.Summary.{Summary}
 use Rattle.format.specs.declared.Attributes.{Attributes}
 
 -- ---- a chain that has to find several things
@@ -111,7 +125,7 @@ module _ (s : List ℕ) (es : List Entry) (M : Means s es) where
     where
       none-said : (m : ℕ) → PlanesCount s es p m → ⊥
       none-said m c =
-          let e : c .planes ≡ q = Option·some-inj .0 (sym (level-in s es M p .only (c .planes) (c .there)) ∙ level-in s es M p .only q there) in
+          let e : c .planes ≡ q = only-one (level-in s es M p) (c .planes) q (c .there) there in
           no-such _ (unsigned-in s es M q) (unsigned-lost q x f y) m (rw e at (c .count))
 
       there-is : SpectralCount s es p n → UiCount s es p n
@@ -138,6 +152,44 @@ module _ (s : List ℕ) (es : List Entry) (M : Means s es) where
   unfolding ascii
   covers-one i x f y = unsaid (no-such _ (unsigned-in s es M i) (unsigned-lost i x f y))
 
+  -- ---- of a tree whose attributes are read
+
+  no-size : {name : List ℕ} {limit : ℕ} (i : ℕ) (a : Attributes) (x : Float) → Sized s es i a → SizeField name limit → Field s es (suc i) name (double x)
+      → NotUnsigned limit x → ⊥
+  unfolding ascii
+  no-size i a x y width f z = no-such _ (unsigned-in s es M i) (unsigned-lost i x f z) (a .width) (y .width)
+  no-size i a x y row-bytes f z = no-such _ (unsigned-in s es M i) (unsigned-lost i x f z) (a .stride) (y .row)
+  no-size i a x y height f z = no-such _ (unsigned-in s es M i) (unsigned-lost i x f z) (a .height) (y .height)
+  no-size i a x y components f z = no-such _ (unsigned-in s es M i) (unsigned-lost i x f z) (a .components) (y .components)
+  no-size i a x y bits f z = none≢some (sym (u32-lost i x f z) ∙ some-below _ (a .bits) (unsigned-in s es M i .only (a .bits) (y .bits)) (y .bits-u32))
+
+  no-attributes : {name : List ℕ} (i : ℕ) (a : Attributes) (x : Float) → AttributesOf s es a → Field s es 0 (ascii "SLxImageAttributes") (level i)
+      → Field s es (suc i) name (double x) → NotStated name x → ⊥
+  unfolding ascii
+  no-attributes i a x y there f n = go (only-one (level-at s es M 0) i (y .at-level) there (y .sized .level-there)) f n
+    where
+      go : {name : List ℕ} → i ≡ y .at-level → Field s es (suc i) name (double x) → NotStated name x → ⊥
+      go e f (size k z) = no-size (y .at-level) a x (y .sized) k (rw e at f) z
+      go e f (compression z) = no-such _ (signed-in s es M (y .at-level)) (signed-lost (y .at-level) x (rw e at f) z) (pos 2) (y .compression)
+
+  no-loop : (i : ℕ) (x : Float) (ls : List Loop) → Field s es (suc i) (ascii "eType") (double x) → NotSigned x → LoopsOf s es i ls → ls ≡ []
+  unfolding ascii
+  no-loop i x ls f z y = empty (y .built) (y .on-axes) (none-built (y .walked))
+    where
+      untyped : {t c : ℕ} → LoopAt s es i t c → ⊥
+      untyped {t} a = no-such _ (signed-in s es M i) (signed-lost i x f z) (pos t) (a .kind)
+
+      none-built : {bs : List Built} → Walks s es (i ∷ []) 0 [] bs → bs ≡ []
+      none-built (stops _ done) = refl
+      none-built (spectral a _ _ _) = absurd (untyped a)
+      none-built (appends a _ _ _ _ _) = absurd (untyped a)
+
+      empty : (bs : List Built) → OnAxes (reverse bs) ls → bs ≡ [] → ls ≡ []
+      empty bs a e = on-none (rw e at a)
+        where
+          on-none : {ls : List Loop} → OnAxes [] ls → ls ≡ []
+          on-none OnAxes.nil = refl
+
   pub counts-as-absent : CountsAsAbsent s es
   counts-as-absent = record {
     size-missing = size-missing;
@@ -150,3 +202,41 @@ module _ (s : List ℕ) (es : List Entry) (M : Means s es) where
     no-color = color-lost;
     covers-one = covers-one;
   }
+
+-- ---- of a file that is joined to a summary
+
+module _ (s : List ℕ) (u : Summary) (J : Joined s u) where
+  chunk-at : {name : List ℕ} {q : Range} → Named s (dataIn s (J .map-place)) (J .map-entries) name q → ChunkAt s name q
+  chunk-at n = record { map-place = J .map-place; map-entries = J .map-entries; mapped = J .mapped; named = n }
+
+  attributes-at : TreeAt s (needed Needed.attributes) (J .attributes-tree)
+  unfolding ascii
+  attributes-at = record { place = J .attributes-place; chunk = chunk-at (J .attributes-named); formed = J .attributes-formed }
+
+  experiment-at : TreeAt s (needed Needed.experiment) (J .experiment-tree)
+  unfolding ascii
+  experiment-at = record { place = J .experiment-place; chunk = chunk-at (J .experiment-named); formed = J .experiment-formed }
+
+  joined-whole : (es : List Entry) (i : ℕ) (name : List ℕ) (x : Float) → TreeAt s (needed Needed.attributes) es
+      → Field s es 0 (ascii "SLxImageAttributes") (level i) → Field s es (suc i) name (double x) → NotStated name x → ⊥
+  joined-whole es i name x T there f n =
+      let e : es ≡ J .attributes-tree = tree-at-unique s _ es (J .attributes-tree) T attributes-at in
+      let m = tree-means s (T .place) es (T .formed) in
+      no-attributes s es m i (J .attributes) x (rw (← e) at (J .attributes-of)) there f n
+
+  joined-typed : WholeTyped s u
+  unfolding ascii
+  joined-typed es i x E f z =
+      let e : es ≡ J .experiment-tree = tree-at-unique s _ es (J .experiment-tree) (E .tree) experiment-at in
+      let m = tree-means s (E .tree .place) es (E .tree .formed) in
+      let there : Field s es 0 (ascii "SLxExperiment") (level (J .experiment-level)) = rw (← e) at (J .experiment-there) in
+      let l : J .experiment-level ≡ i = only-one (level-at s es m 0) (J .experiment-level) i there (E .there) in
+      let ls : LoopsOf s es i (J .loops) = rw (← e, l) at (J .loops-of) in
+      J .summary .loops-used ∙ no-loop s es m i x (J .loops) f z ls
+
+pub open-whole : (file table : List ℕ) → WholeNeeded file (openCall file table .number)
+open-whole file table es i name x T there f n e =
+    joined-whole file (openCall file table .summary) (third .returns-theirs file table e) es i name x T there f n
+
+pub open-typed : (file table : List ℕ) → openCall file table .number ≡ 0 → WholeTyped file (openCall file table .summary)
+open-typed file table e = joined-typed file (openCall file table .summary) (third .returns-theirs file table e)

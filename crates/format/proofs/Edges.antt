@@ -16,7 +16,10 @@ use Rattle.format.specs.Edges.{attributesData, attributesOf, timesData, 
 
 pub starred : Starred
 unfolding
-    ascii leBytes wholeTree attributesOf timesOf stepOf planeOf attributesData timesData stackData planeData u32Record oneTrue seqIndex attributes read channelOf zStep valueAt field leAt units lossy badShape badBits uncompressed asLevel bind unsigned signed below32 refuseIf andThen orRefuse float slotValue slotsOf nameOf putNamed same ofBits putUnnamed elements loopParams orZero div magnitude sub ofInt childLevels experiment append said
+    ascii leBytes wholeTree attributesOf timesOf stepOf planeOf attributesData timesData stackData planeData u32Record oneTrue seqIndex attributes
+    read channelOf zStep valueAt field leAt units lossy badShape badBits uncompressed asLevel bind unsigned signed below32 refuseIf andThen orRefuse
+    float slotValue slotsOf nameOf putNamed same ofBits putUnnamed elements loopParams orZero div magnitude sub ofInt childLevels experiment append
+    said
 starred = record {
   seq-times-first = refl;
   seq-scenes-first = refl;

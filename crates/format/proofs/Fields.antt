@@ -49,14 +49,18 @@ module _ (s : List ℕ) (es : List Entry) (M : Means s es) where
   pub unsigned-in : (i : ℕ) {u : ℕ} {name : List ℕ} → States (bind (fieldIn s es i (u ∷ name)) unsigned) (Unsigned s es i (u ∷ name))
   unsigned-in i =
       record {
-        holds = λ n e. let r = reading unsigned i .holds n e in record { value = r .value; stated = r .stated; reads = unsigned-of (r .value) .holds n (r .reads) };
+        holds = λ n e.
+            let r = reading unsigned i .holds n e in
+            record { value = r .value; stated = r .stated; reads = unsigned-of (r .value) .holds n (r .reads) };
         only = λ n r. reading unsigned i .only n (record { value = r .value; stated = r .stated; reads = unsigned-of (r .value) .only n (r .reads) });
       }
 
   pub signed-in : (i : ℕ) {u : ℕ} {name : List ℕ} → States (bind (fieldIn s es i (u ∷ name)) signed) (Signed s es i (u ∷ name))
   signed-in i =
       record {
-        holds = λ n e. let r = reading signed i .holds n e in record { value = r .value; stated = r .stated; reads = signed-of (r .value) .holds n (r .reads) };
+        holds = λ n e.
+            let r = reading signed i .holds n e in
+            record { value = r .value; stated = r .stated; reads = signed-of (r .value) .holds n (r .reads) };
         only = λ n r. reading signed i .only n (record { value = r .value; stated = r .stated; reads = signed-of (r .value) .only n (r .reads) });
       }
 

@@ -5,7 +5,7 @@ use mathlib.Core.Option.{Option, Option·some-inj}
 use mathlib.Core.List.{List, [], _∷_, reverse}
 use native.Mathlib.Omega.{arith}
 use Rattle.format.proofs.Answers.{given-inj, refused-inj}
-use Rattle.format.proofs.Rules.{States}
+use Rattle.format.proofs.Rules.{only-one}
 use Rattle.format.proofs.Trees.{tree-unique, read-fault, fault-inj}
 use Rattle.format.proofs.Named.{mapped-unique, named-unique, tree-means}
 use Rattle.format.proofs.Means.{Means}
@@ -28,9 +28,6 @@ use Rattle.format.specs.Refused.Open.{wrong-bits, wrong-shape, no-level,
 use Rattle.format.specs.declared.Range.{Range}
 use Rattle.format.specs.declared.Entry.{Entry}
 use Rattle.format.specs.declared.Attributes.{Attributes}
-
-only-one : {A : Type 0} {P : A → Type 0} {o : Option A} → States o P → (a b : A) → P a → P b → a ≡ b
-only-one S a b p q = Option·some-inj .0 (sym (S .only a p) ∙ S .only b q)
 
 module _ (s : List ℕ) where
   -- ---- chunks and their trees

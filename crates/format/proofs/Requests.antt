@@ -15,7 +15,7 @@ use Rattle.format.proofs.Compared.{as-before, comparison-is, plain-name
 use Rattle.format.proofs.DoubleEdges.{minus-zero, last-u64, past-u64, last-i64, past-i64, least-i64, below-i64, fractions, smallest}
 use Rattle.format.proofs.Wholes.{unsigned-of, signed-of, unsigned-absent, u32-absent, signed-absent}
 use Rattle.format.proofs.Named.{tree-means}
-use Rattle.format.proofs.Absent.{counts-as-absent}
+use Rattle.format.proofs.Absent.{counts-as-absent, open-whole, open-typed}
 
 pub sheets : Sheets
 sheets = record {
@@ -65,6 +65,8 @@ whole-numbers = record {
   wholes-stay = λ n. (λ h. rw (lt-ltb n (2 ^ 64) h) refl, λ h. rw (lt-ltb n (2 ^ 63) h) refl);
   below-stay = λ n. (refl, λ h. rw (lt-ltb n (2 ^ 63) h) refl);
   doubles-stay = λ x. refl;
+  open-whole = open-whole;
+  open-typed = open-typed;
   in-fields = λ s r es t. counts-as-absent s es (tree-means s r es t);
 }
   where

@@ -1,7 +1,7 @@
 -- A definition that computes and a rule of the grammar that say the same. Assumes nothing.
 use mathlib.Core.Path.{_≡_, refl, sym, _∙_}
 use mathlib.Core.Bool.{Bool, true, false, cond}
-use mathlib.Core.Option.{Option, none, some}
+use mathlib.Core.Option.{Option, none, some, Option·some-inj}
 use Rattle.format.proofs.Answers.{none≢some}
 use Rattle.format.specs.Values.{bind}
 
@@ -26,6 +26,10 @@ module _ {A : Type 0} {P : A → Type 0} (o : Option A) (S : States o P) where
       go : (x : Option A) → o ≡ x → x ≡ none
       go none q = refl
       go (some a) q = absurd (f a (S .holds a q))
+
+-- and of nothing else than one
+pub only-one : {A : Type 0} {P : A → Type 0} {o : Option A} → States o P → (a b : A) → P a → P b → a ≡ b
+only-one S a b p q = Option·some-inj .0 (sym (S .only a p) ∙ S .only b q)
 
 -- ---- what is read of a value that may be absent
 

@@ -56,7 +56,10 @@ tinySummary =
     }
 
 pub tiny-opened : opened tiny 7 ≡ given tinySummary
-unfolding tiny tinySummary ascii leBytes endMark mapName opened andThen refuseIf leAt same part chunkData mapEntries orRefuse offsetOf within treeIn attributes asLevel field slotsOf nameOf units lossy bind unsigned signed below32 uncompressed badBits badShape putNamed putUnnamed elements slotValue valueAt experiment said loopParams orZero childLevels append judge hasAxis summaryOf calibration zStep zFloat unstated
+unfolding
+    tiny tinySummary ascii leBytes endMark mapName opened andThen refuseIf leAt same part chunkData mapEntries orRefuse offsetOf within treeIn
+    attributes asLevel field slotsOf nameOf units lossy bind unsigned signed below32 uncompressed badBits badShape putNamed putUnnamed elements
+    slotValue valueAt experiment said loopParams orZero childLevels append judge hasAxis summaryOf calibration zStep zFloat unstated
 tiny-opened = refl
 
 pub tiny-short : opened tiny 6 ≡ refused 18

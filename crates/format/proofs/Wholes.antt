@@ -5,7 +5,8 @@ use mathlib.Core.Path.{_≡_, refl, sym, ap, _∙_}
 use mathlib.Core.Logic.{_⊎_, inl, inr, _↔_}
 use mathlib.Core.Bool.{Bool, true, false, cond, true≢false, false≢true}
 use mathlib.Core.Option.{Option, none, some, Option·some-inj}
-use native.Mathlib.Nat.{add-zero, zero-mul, eq-zero-or-pos, mul-one, mul-right-comm, mul-mod-left, mul-div-cancel, mul-le-mul-right, mul-lt-mul-of-pos-right, mul-pos, zero-lt-suc, mod-lt, div-add-mod', add-mul, one-mul}
+use native.Mathlib.Nat.{add-zero, zero-mul, eq-zero-or-pos, mul-one, mul-right-comm, mul-mod-left, mul-div-cancel, mul-le-mul-right, mul-lt-mul-of-pos-right}
+use native.Mathlib.Nat.{mul-pos, zero-lt-suc, mod-lt, div-add-mod', add-mul, one-mul}
 use native.Mathlib.Nat.{eq-of-mul-eq-mul-right, lt-of-mul-lt-mul-right, le-of-mul-le-mul-right}
 use native.Mathlib.Omega.{arith}
 use borrow.Author.Tests.{ltb-true, ltb-false, lt-ltb, le-ltb, eqb-true}
@@ -19,7 +20,8 @@ use Rattle.format.proofs.Rules.{States, no-such, none-of, cond-some, bi
 use Rattle.format.specs.Values.{Value, flag, whole, double, text, bytes, level, list, mapOption, bind}
 use Rattle.format.specs.Numbers.{withSign, wholeSize, wholeDouble, wholeNumber, inU64, inI64, unsigned, signed, below32, magnitude}
 use Rattle.format.specs.Grammar.Numbers as rules
-use Rattle.format.specs.Grammar.Numbers.{Equals, plus, minus-zero, minus, Number, unset, set, stored, of-double, ReadsUnsigned, ReadsSigned, not-below-0, below-0}
+use Rattle.format.specs.Grammar.Numbers.{Equals, plus, minus-zero, minus, Number, unset, set, stored, of-double}
+use Rattle.format.specs.Grammar.Numbers.{ReadsUnsigned, ReadsSigned, not-below-0, below-0}
 use Rattle.format.specs.Grammar.Numbers.{Measures, Fraction, NotUnsigned, NotSigned}
 
 -- ---- the size of a double, m × 2^e

@@ -1,4 +1,5 @@
--- "Attributes", and change request 4, "No more fractions as whole numbers": how a value is read as a number. Doubles go by the logic's account of IEEE 754, lib.Ieee.
+-- "Attributes", and change request 4, "No more fractions as whole numbers": how a value is read as a number. Doubles go by the logic's account of IEEE 754,
+-- lib.Ieee.
 use Prim.Native.Nat.{ℕ, _^_, _*_, _/_, _%_}
 use mathlib.Core.Bool.{Bool, true, false, cond}
 use mathlib.Core.Option.{Option, none, some}

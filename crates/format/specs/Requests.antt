@@ -18,6 +18,7 @@ use Rattle.format.specs.Attributes.{attributes, planeBytes}
 use Rattle.format.specs.Summary.{shapeOf}
 use Rattle.format.specs.Sheets.{sheet}
 use Rattle.format.specs.Comparison.{comparison, compared}
+use Rattle.format.specs.Calls.Open.{openCall}
 use Rattle.format.specs.Calls.Plane.{planeCall}
 use Rattle.format.specs.Calls.Sheet.{sheetCall, sheetReadCall}
 use Rattle.format.specs.Grammar.Sheets.{SheetSizes, SheetOf}
@@ -32,6 +33,7 @@ use Rattle.format.specs.Grammar.Comparison.{NamesTell, Looked}
 use Rattle.format.specs.Refused.Order.{First}
 use Rattle.format.specs.Refused.Sheet.{SheetRefusal, sheetOrder, SheetReadRefusal, sheetReadOrder}
 use Rattle.format.specs.Sentences.{Refuses, AcceptedUnless, SheetWritten, PlaneOn, SheetTaken, TurnedAway, ZeroSizes}
+use Rattle.format.specs.Sentences.{SizeField, WholeNeeded, WholeTyped}
 use Rattle.format.specs.declared.Range.{Range}
 use Rattle.format.specs.declared.Entry.{Entry}
 use Rattle.format.specs.declared.Attributes.{Attributes}
@@ -86,14 +88,6 @@ pub record NameChecks : Type 0 where
 
 -- ---- change request 4, "No more fractions as whole numbers"
 
--- the five numbers without which no file opens, and from where on a whole number is out of the range of each
-pub data SizeField : List ℕ → ℕ → Type 0 where
-  width : SizeField (ascii "uiWidth") (2 ^ 64)
-  row-bytes : SizeField (ascii "uiWidthBytes") (2 ^ 64)
-  height : SizeField (ascii "uiHeight") (2 ^ 64)
-  components : SizeField (ascii "uiComp") (2 ^ 64)
-  bits : SizeField (ascii "uiBpcInMemory") (2 ^ 32)
-
 -- What a double that counts as absent means, field by field, in a tree with the entries es.
 pub record CountsAsAbsent (s : List ℕ) (es : List Entry) : Type 0 where
   -- 11
@@ -139,5 +133,8 @@ pub record WholeNumbers : Type 0 where
   pub wholes-stay : (n : ℕ) → (n < 2 ^ 64 → unsigned (whole (pos n)) ≡ some n) × (n < 2 ^ 63 → signed (whole (pos n)) ≡ some (pos n))
   pub below-stay : (n : ℕ) → (unsigned (whole (negsuc n)) ≡ none) × (n < 2 ^ 63 → signed (whole (negsuc n)) ≡ some (negsuc n))
   pub doubles-stay : (x : Float) → float (double x) ≡ some x
+  -- a file that has such a double for a number that opening needs is refused, and where the outermost eType is one there is no loop
+  pub open-whole : (file table : List ℕ) → WholeNeeded file (openCall file table .number)
+  pub open-typed : (file table : List ℕ) → openCall file table .number ≡ 0 → WholeTyped file (openCall file table .summary)
   -- in any tree of any bytes
   pub in-fields : (s : List ℕ) (r : Range) (es : List Entry) → Tree s r es → CountsAsAbsent s es

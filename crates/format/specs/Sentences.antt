@@ -1,11 +1,13 @@
 -- Sentences that the demands and the calls' own contracts are made of, each under a name.
-use Prim.Native.Nat.{ℕ, _+_, _≤_}
+use Prim.Native.Nat.{ℕ, suc, _+_, _^_, _≤_}
 use mathlib.Core.Path.{_≡_}
 use mathlib.Core.Logic.{_↔_}
-use mathlib.Core.List.{List}
+use mathlib.Core.List.{List, []}
 use lib.ListN.{length, take, drop}
-use Rattle.format.specs.Bytes.{zeros}
+use lib.Ieee.{Float}
+use Rattle.format.specs.Bytes.{zeros, ascii}
 use Rattle.format.specs.Chunks.{dataIn}
+use Rattle.format.specs.Values.{double, level}
 use Rattle.format.specs.Attributes.{planeBytes}
 use Rattle.format.specs.Frames.{seqIndex}
 use Rattle.format.specs.Summary.{shapeOf, loopsOf}
@@ -14,8 +16,11 @@ use Rattle.format.specs.Sheets.{sheet}
 use Rattle.format.specs.Calls.Plane.{planeCall}
 use Rattle.format.specs.Grammar.Sheets.{SheetOf}
 use Rattle.format.specs.Grammar.Trees.{Tree}
+use Rattle.format.specs.Grammar.Values.{Field}
+use Rattle.format.specs.Grammar.Numbers.{NotUnsigned, NotSigned}
 use Rattle.format.specs.Grammar.File.{Joined}
 use Rattle.format.specs.Grammar.Table.{Enough}
+use Rattle.format.specs.Refused.Open.{attributes, needed, TreeAt, ExperimentAt}
 use Rattle.format.specs.Refused.Plane.{Within, FrameData, PlaneRefusal, Copied}
 use Rattle.format.specs.Refused.Tree.{NameData, Tabled}
 use Rattle.format.specs.declared.Range.{Range}
@@ -100,3 +105,29 @@ TreeEntered file u name n after =
 abbrev pub ReadsExactly : List ℕ → ℕ → ℕ → ℕ → ℕ → ℕ → List ℕ → ℕ → Type 0
 ReadsExactly file room scene t c z samples n =
     (n ≡ 0) ↔ ((u : Summary) × Joined file u × Enough file room × None (PlaneRefusal file u scene t c z samples))
+
+-- ---- change request 4, "No more fractions as whole numbers"
+
+-- the five numbers without which no file opens, and from where on a whole number is out of the range of each
+pub data SizeField : List ℕ → ℕ → Type 0 where
+  width : SizeField (ascii "uiWidth") (2 ^ 64)
+  row-bytes : SizeField (ascii "uiWidthBytes") (2 ^ 64)
+  height : SizeField (ascii "uiHeight") (2 ^ 64)
+  components : SizeField (ascii "uiComp") (2 ^ 64)
+  bits : SizeField (ascii "uiBpcInMemory") (2 ^ 32)
+
+-- x counts as absent in the attributes' field of this name
+pub data NotStated : List ℕ → Float → Type 0 where
+  size : {name : List ℕ} {limit : ℕ} {x : Float} → SizeField name limit → NotUnsigned limit x → NotStated name x
+  compression : {x : Float} → NotSigned x → NotStated (ascii "eCompression") x
+
+-- an opening whose number is n refuses a file whose attributes have such a double
+abbrev pub WholeNeeded : List ℕ → ℕ → Type 0
+WholeNeeded file n =
+    (es : List Entry) (i : ℕ) (name : List ℕ) (x : Float) → TreeAt file (needed attributes) es → Field file es 0 (ascii "SLxImageAttributes") (level i)
+    → Field file es (suc i) name (double x) → NotStated name x → Refuses n
+
+-- the summary u has no loop where the outermost eType of the file is a double that counts as absent
+abbrev pub WholeTyped : List ℕ → Summary → Type 0
+WholeTyped file u =
+    (es : List Entry) (i : ℕ) (x : Float) → ExperimentAt file es i → Field file es (suc i) (ascii "eType") (double x) → NotSigned x → loopsOf u ≡ []

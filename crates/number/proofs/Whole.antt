@@ -5,20 +5,23 @@ use mathlib.Core.Bool.{Bool, true, false, cond}
 use mathlib.Core.Option.{Option, none, some}
 use Prim.Native.Nat.{ℕ, zero, suc, _+_, _-_, _*_, _/_, _%_, _^_, _≤_, _<_}
 use native.Mathlib.Nat.{le-trans, le-of-eq, le-of-lt, lt-of-lt-of-le, mul-assoc, mul-pos, mul-le-mul-right, mul-lt-mul-of-pos-right, le-add-right}
-use native.Mathlib.Nat.{zero-mul, one-mul, add-zero, add-mul, mul-right-comm, div-le-self, div-mul-le-self, div-add-mod', mod-lt, mod-eq-of-lt, eq-or-lt-of-le}
+use native.Mathlib.Nat.{one-mul, add-zero, add-mul, div-le-self, div-mul-le-self, div-add-mod', mod-lt, mod-eq-of-lt, eq-or-lt-of-le}
 use native.Mathlib.Omega.{arith}
 use borrow.Author.Tests.{ltb-true, ltb-false, lt-leb, le-leb, eqb-true, eqb-false, eq-eqb, ne-eqb}
 use lib.Dec.{leb, ltb, eqb, lit≤}
-use lib.IntN.{ℤ}
 use lib.Pow.{pow-add, pow-pos, pow-mono, shl-lt, shl-exact}
 use lib.Ieee.{Float, nan, inf, Format, binary64, prec, low, hid, ones, odd, ofFields, ofBits}
 use lib.Ieee.Exact.{HasValue}
 use Rattle.format.specs.Values.{double, bind, mapOption}
-use Rattle.format.specs.Numbers.{unsigned, signed, magnitude}
+use Rattle.format.specs.Numbers.{unsigned, signed}
 use Rattle.format.proofs.Wholes.{sized-unsigned, between-unsigned, large-unsigned, below-unsigned, unsigned-absent, Bears, bySign, sign-signed}
 use Rattle.format.specs.Grammar.Numbers.{not-a-number, infinite}
 use Rattle.number.proofs.Reading as reading
 use Rattle.number.proofs.Reading.{ofBits-is, nan-above, clears, at-zero, normal}
+
+-- a double, read unsigned
+abbrev read : Float → Option ℕ
+read v = unsigned (double v)
 
 -- ---- a number over a power of two, c = u × p
 
@@ -65,7 +68,7 @@ module _ (t : ℕ) (D : t < 2 ^ 52) where
 
   -- what the fields say, read unsigned
   abbrev said : ℕ → Option ℕ
-  said x = unsigned (double (ofFields binary64 false x t))
+  said x = read (ofFields binary64 false x t)
 
   below-one : (v : Float) (r k : ℕ) → 0 < r → r < 2 ^ 53 → k ≤ 1021 → HasValue v false (r * 2 ^ k) (2 ^ 1074) → none ≡ unsigned (double v)
   below-one v r k P R K h =
@@ -108,7 +111,8 @@ module _ (t : ℕ) (D : t < 2 ^ 52) where
     behind lo hi =
         let k = x - 1075 in
         let e : x - 1 ≡ k + 1074 = omega arith in
-        let w : q * 2 ^ (x - 1) ≡ q * 2 ^ k * 2 ^ 1074 = ap (λ (z : ℕ). q * 2 ^ z) e ∙ ap (λ (z : ℕ). q * z) (pow-add 2 k 1074) ∙ sym (mul-assoc q (2 ^ k) (2 ^ 1074)) in
+        let w : q * 2 ^ (x - 1) ≡ q * 2 ^ k * 2 ^ 1074
+        = ap (λ (z : ℕ). q * 2 ^ z) e ∙ ap (λ (z : ℕ). q * z) (pow-add 2 k 1074) ∙ sym (mul-assoc q (2 ^ k) (2 ^ 1074)) in
         ap some (shl-exact 53 k 64 q-hi (omega arith))
         ∙ sym (sized-unsigned (ofFields binary64 false x t) (q * 2 ^ k) (2 ^ 1074) (pow-pos 1074)
         (lt-of-lt-of-le (shl-lt 53 k q-hi) (pow-mono {i = 53 + k} {j = 64} (omega arith)))
@@ -124,11 +128,12 @@ module _ (t : ℕ) (D : t < 2 ^ 52) where
         far : x < 2047 → 2 ^ 64 * 2 ^ 1074 ≤ q * 2 ^ (x - 1)
         far l =
             le-trans (le-of-eq (sym (pow-add 2 64 1074)))
-            (le-trans (pow-mono {i = 1138} {j = 52 + (x - 1)} (omega arith)) (le-trans (le-of-eq (pow-add 2 52 (x - 1))) (mul-le-mul-right (2 ^ (x - 1)) (le-add-right (2 ^ 52) t))))
+            (le-trans (pow-mono {i = 1138} {j = 52 + (x - 1)} (omega arith))
+            (le-trans (le-of-eq (pow-add 2 52 (x - 1))) (mul-le-mul-right (2 ^ (x - 1)) (le-add-right (2 ^ 52) t))))
 
         go : (b : Bool) → eqb t 0 ≡ b → x ≡ 2047 → none ≡ said x
-        go true z e = sym (ap (λ (v : Float). unsigned (double v)) (reading.infinite binary64 false x t e (eqb-true t 0 z)) ∙ unsigned-absent (inf false) .0 infinite)
-        go false z e = sym (ap (λ (v : Float). unsigned (double v)) (reading.no-number binary64 false x t e (eqb-false t 0 z)) ∙ unsigned-absent nan .0 not-a-number)
+        go true z e = sym (ap read (reading.infinite binary64 false x t e (eqb-true t 0 z)) ∙ unsigned-absent (inf false) .0 infinite)
+        go false z e = sym (ap read (reading.no-number binary64 false x t e (eqb-false t 0 z)) ∙ unsigned-absent nan .0 not-a-number)
 
 -- ---- a pattern b without a sign
 
@@ -144,7 +149,7 @@ module _ (b : ℕ) (I : b < 2 ^ 63) where
 
   fields-are : said t D x ≡ unsigned (double (ofBits binary64 b))
   fields-are =
-      ap (λ (v : Float). unsigned (double v))
+      ap read
       (sym
       (ofBits-is binary64 b
       ∙ ap (λ (s : Bool). ofFields binary64 s (b % 2 ^ 63 / 2 ^ 52) t) (lt-leb (2 ^ 63) b I)
@@ -190,7 +195,7 @@ fields-bear f s (suc x) t = go (eqb (suc x) (ones f)) (eqb t 0)
 pub signed-is : (b : ℕ) (s : Bool) (o : Option ℕ) → leb (2 ^ 63) b ≡ s → o ≡ unsigned (double (ofBits binary64 (b % 2 ^ 63)))
     → bySign s o ≡ signed (double (ofBits binary64 b))
 signed-is b s o e h =
-    ap (bySign s) (h ∙ ap (λ (v : Float). unsigned (double v)) (clears binary64 b))
+    ap (bySign s) (h ∙ ap read (clears binary64 b))
     ∙ sym (sign-signed s (ofBits binary64 b) (rw (ofBits-is binary64 b, e) (fields-bear binary64 s (b % 2 ^ 63 / 2 ^ 52) (b % 2 ^ 52))))
 
 -- finite with the sign s, above zero in size where the pattern is, or an infinity
@@ -201,7 +206,8 @@ found : (s : Bool) (x t : ℕ) → x ≤ 2047 → (x ≡ 2047 → t ≡ 0) → F
 found s zero t h z = inl (t * 2 ^ 0, at-zero binary64 s t, λ (p : 0 < 0 + t). mul-pos {m = t} {n = 2 ^ 0} (omega arith) (pow-pos 0))
 found s (suc k) t h z = elim (eq-or-lt-of-le h) [
   | inl e ↦ inr (reading.infinite binary64 s (suc k) t e (z e))
-  | inr l ↦ inl ((2 ^ 52 + t) * 2 ^ k, normal binary64 s (suc k) k t refl l, λ (p : 0 < suc k + t). mul-pos {m = 2 ^ 52 + t} {n = 2 ^ k} (omega arith) (pow-pos k))
+  | inr l ↦ inl
+      ((2 ^ 52 + t) * 2 ^ k, normal binary64 s (suc k) k t refl l, λ (p : 0 < suc k + t). mul-pos {m = 2 ^ 52 + t} {n = 2 ^ k} (omega arith) (pow-pos k))
 ]
 
 module _ (b : ℕ) (F : b < 2 ^ 64) where
@@ -209,7 +215,7 @@ module _ (b : ℕ) (F : b < 2 ^ 64) where
   r = b % 2 ^ 63
 
   below-zero : 2 ^ 63 < b → r ≤ 0x7ff0_0000_0000_0000 → unsigned (double (ofBits binary64 b)) ≡ none
-  below-zero h I = ap (λ (v : Float). unsigned (double v)) minus ∙ go (found true (r / 2 ^ 52) (b % 2 ^ 52) (omega arith) (λ (e : r / 2 ^ 52 ≡ 2047). omega arith))
+  below-zero h I = ap read minus ∙ go (found true (r / 2 ^ 52) (b % 2 ^ 52) (omega arith) (λ (e : r / 2 ^ 52 ≡ 2047). omega arith))
     where
       minus : ofBits binary64 b ≡ ofFields binary64 true (r / 2 ^ 52) (b % 2 ^ 52)
       minus = ofBits-is binary64 b ∙ ap (λ (z : Bool). ofFields binary64 z (r / 2 ^ 52) (b % 2 ^ 52)) (le-leb (2 ^ 63) b (le-of-lt h))
@@ -219,13 +225,13 @@ module _ (b : ℕ) (F : b < 2 ^ 64) where
 
       go : Found true (r / 2 ^ 52) (b % 2 ^ 52) → unsigned (double (ofFields binary64 true (r / 2 ^ 52) (b % 2 ^ 52))) ≡ none
       go (inl v) = below-unsigned (ofFields binary64 true (r / 2 ^ 52) (b % 2 ^ 52)) (v .0) (2 ^ 1074) (pow-pos 1074) (v .1) (v .2 some-left)
-      go (inr e) = ap (λ (v : Float). unsigned (double v)) e ∙ unsigned-absent (inf true) .0 infinite
+      go (inr e) = ap read e ∙ unsigned-absent (inf true) .0 infinite
 
   pub absent-below : 2 ^ 63 < b → none ≡ unsigned (double (ofBits binary64 b))
   absent-below h = sym (go (ltb 0x7ff0_0000_0000_0000 r) refl)
     where
       go : (c : Bool) → ltb 0x7ff0_0000_0000_0000 r ≡ c → unsigned (double (ofBits binary64 b)) ≡ none
-      go true e = ap (λ (v : Float). unsigned (double v)) (nan-above binary64 b (ltb-true 0x7ff0_0000_0000_0000 r e)) ∙ unsigned-absent nan .0 not-a-number
+      go true e = ap read (nan-above binary64 b (ltb-true 0x7ff0_0000_0000_0000 r e)) ∙ unsigned-absent nan .0 not-a-number
       go false e = below-zero h (ltb-false 0x7ff0_0000_0000_0000 r e)
 
   -- -0 is read as 0

@@ -11,9 +11,10 @@ use Rattle.format.specs.Grammar.File.{Joined}
 use Rattle.format.specs.Refused.Order.{FirstAt}
 use Rattle.format.specs.Refused.Open.{OpenRefusal, openOrder}
 use Rattle.format.specs.Refused.Summary.{Sound, Blank}
-use Rattle.format.specs.Sentences.{Refuses, OpensExactly, Different}
+use Rattle.format.specs.Sentences.{Refuses, OpensExactly, Different, WholeNeeded, WholeTyped}
 use Rattle.format.specs.declared.Summary.{Summary}
 use Rattle.format.proofs.Demands.{first, third}
+use Rattle.format.proofs.Requests.{whole-numbers}
 use Rattle.open.specs.Parts.{Says}
 use Rattle.open.specs.declared.Opened.{Opened}
 
@@ -22,7 +23,7 @@ module _ (s t : List ℕ) where
   abbrev Sentences : ℕ → Summary → Type 0
   Sentences n u =
       FirstAt (OpenRefusal s (roomIn (length t))) openOrder n × ((Refuses n → Blank u) × (OpensExactly s (roomIn (length t)) n
-      × ((n ≡ 0 → Joined s u) × ((n ≡ 0 → Sound s u) × (n ≡ 0 → Different (loopsOf u))))))
+      × ((n ≡ 0 → Joined s u) × ((n ≡ 0 → Sound s u) × ((n ≡ 0 → Different (loopsOf u)) × (WholeNeeded s n × (n ≡ 0 → WholeTyped s u)))))))
 
   abbrev Promised : Opened → List ℕ → Type 0
   Promised r out =
@@ -31,9 +32,12 @@ module _ (s t : List ℕ) where
   different : openCall s t .number ≡ 0 → Different (loopsOf (openCall s t .summary))
   different e = third .frames-different s (openCall s t .summary) (third .opened-sound s t e)
 
+  whole : WholeNeeded s (openCall s t .number) × (openCall s t .number ≡ 0 → WholeTyped s (openCall s t .summary))
+  whole = (whole-numbers .open-whole s t, whole-numbers .open-typed s t)
+
   sentences : Sentences (openCall s t .number) (openCall s t .summary)
   sentences =
-      (first .open-number s t, (first .open-refused s t, (third .opens-exactly s t, (third .returns-theirs s t, (third .opened-sound s t, different)))))
+      (first .open-number s t, (first .open-refused s t, (third .opens-exactly s t, (third .returns-theirs s t, (third .opened-sound s t, (different, whole))))))
 
   pub promised : {r : Opened} {out : List ℕ} → Says r (opened s (roomIn (length t))) → out ≡ zeros (length t) → Promised r out
   unfolding openCall

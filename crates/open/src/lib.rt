@@ -42,7 +42,7 @@ ghost use Rattle.format.specs.Grammar.File.{Joined};
 ghost use Rattle.format.specs.Refused.Order.{FirstAt};
 ghost use Rattle.format.specs.Refused.Open.{OpenRefusal, openOrder};
 ghost use Rattle.format.specs.Refused.Summary.{Sound, Blank};
-ghost use Rattle.format.specs.Sentences.{Refuses, OpensExactly, Different};
+ghost use Rattle.format.specs.Sentences.{Refuses, OpensExactly, Different, WholeNeeded, WholeTyped};
 ghost use Rattle.format.specs.declared.Loop.{Loop};
 ghost use Rattle.attributes.specs.Parsed.{answer};
 ghost use Rattle.chunk.specs.Answers.{lookupOf};
@@ -297,6 +297,8 @@ pub fn open(file: &[u8], table: &mut [u8]) -> Opened
     ensures theirs { λ r. ⌜ (r .number ≡ 0 → Joined (now (file .entry)) (r .summary)) ⌝ }
     ensures sound { λ r. ⌜ (r .number ≡ 0 → Sound (now (file .entry)) (r .summary)) ⌝ }
     ensures different { λ r. ⌜ (r .number ≡ 0 → Different (loopsOf (r .summary))) ⌝ }
+    ensures whole { λ r. ⌜ WholeNeeded (now (file .entry)) (r .number) ⌝ }
+    ensures typed { λ r. ⌜ (r .number ≡ 0 → WholeTyped (now (file .entry)) (r .summary)) ⌝ }
 {
     let opened = read_file(file, table);
     clear(table);
