@@ -28,29 +28,30 @@ never : {A : Type 0} {n : ℕ} → Refuses n → n ≡ 0 → A
 never f q = absurd (f q)
 
 module _ (file table b : List ℕ) where
-  -- no double that counts as absent was taken
-  abbrev Whole : ℕ → List ℕ → Type 0
-  Whole n out = WholeNeeded file n × (n ≡ 0 → Said out (WholeTyped file))
+  -- the sentences about what the stored summary says, the order, and doubles that count as absent
+  abbrev Later : ℕ → List ℕ → Type 0
+  Later n out =
+      (n ≡ 0 → Said out (Joined file)) × ((n ≡ 0 → Said out (Sound file)) × ((n ≡ 0 → Said out (λ u. Different (loopsOf u)))
+      × ((length b ≡ 144 → FirstAt (OpenRefusal file (roomIn (length table))) openOrder n)
+      × (WholeNeeded file n × (n ≡ 0 → Said out (WholeTyped file))))))
 
-  -- a refused opening took none
-  refused-whole : {n : ℕ} (out : List ℕ) → Refuses n → Whole n out
-  refused-whole out f = ((λ es i name x t there s y. f), never f)
+  -- of a refused opening
+  refused-later : {n : ℕ} (out : List ℕ) → Refuses n → (length b ≡ 144 → FirstAt (OpenRefusal file (roomIn (length table))) openOrder n) → Later n out
+  refused-later out f o = (never f, (never f, (never f, (o, ((λ es i name x t there s y. f), never f)))))
 
   -- the call's number, table and summary, and the sentences that follow
   abbrev pub Promised : ℕ → List ℕ → List ℕ → Type 0
   Promised n left out =
       (n ≡ openOn file table b) × ((left ≡ zeros (length table)) × ((n ≡ 0 → out ≡ summaryBytes (openCall file table .summary))
       × ((Refuses n → out ≡ zeros (length b)) × ((n ≡ 0 → summaryFrom out ≡ some (openCall file table .summary))
-      × ((length b ≡ 144 → OpensExactly file (roomIn (length table)) n) × (((length b ≡ 144 → ⊥) → n ≡ 20)
-      × ((n ≡ 0 → Said out (Joined file)) × ((n ≡ 0 → Said out (Sound file)) × ((n ≡ 0 → Said out (λ u. Different (loopsOf u)))
-      × ((length b ≡ 144 → FirstAt (OpenRefusal file (roomIn (length table))) openOrder n) × Whole n out))))))))))
+      × ((length b ≡ 144 → OpensExactly file (roomIn (length table)) n) × (((length b ≡ 144 → ⊥) → n ≡ 20) × Later n out))))))
 
   pub refused-length : {left out : List ℕ} → (length b ≡ 144 → ⊥) → left ≡ zeros (length table) → out ≡ zeros (length b) → Promised why.summary left out
   unfolding openOn
   refused-length f l z =
       let no : Refuses why.summary = λ q. omega arith in
       let number : why.summary ≡ openOn file table b = rw (ne-eqb (length b) 144 f) refl in
-      (number, (l, (never no, ((λ _. z), (never no, ((λ q. absurd (f q)), ((λ _. refl), (never no, (never no, (never no, ((λ q. absurd (f q)), refused-whole _ no)))))))))))
+      (number, (l, (never no, ((λ _. z), (never no, ((λ q. absurd (f q)), ((λ _. refl), refused-later _ no λ q. absurd (f q))))))))
 
   -- the bytes have a summary's length, so that the number is the opening's
   module _ (long : length b ≡ 144) {n : ℕ} (e : n ≡ openCall file table .number) {left : List ℕ} (l : left ≡ zeros (length table)) where
@@ -70,7 +71,7 @@ module _ (file table b : List ℕ) where
         let o : openCall file table .number ≡ 0 = sym e ∙ z in
         let said : summaryFrom out ≡ some (openCall file table .summary) = s ∙ ap some q in
         let sound = third .opened-sound file table o in
-        let whole : Whole n out = (rw e (whole-numbers .open-whole file table), λ _. (_, said, whole-numbers .open-typed file table o)) in (
+        let whole : WholeNeeded file n = rw e (whole-numbers .open-whole file table) in (
           numbered,
           (
             l,
@@ -86,7 +87,7 @@ module _ (file table b : List ℕ) where
                       (λ f. absurd (f long)),
                       (
                         (λ _. (_, said, third .returns-theirs file table o)),
-                        ((λ _. (_, said, sound)), ((λ _. (_, said, third .frames-different file _ sound)), ((λ _. in-order), whole))),
+                        ((λ _. (_, said, sound)), ((λ _. (_, said, third .frames-different file _ sound)), ((λ _. in-order), (whole, λ _. (_, said, whole-numbers .open-typed file table o))))),
                       ),
                     ),
                   ),
@@ -98,4 +99,4 @@ module _ (file table b : List ℕ) where
 
     pub refused-opening : {out : List ℕ} → Refuses n → out ≡ zeros (length b) → Promised n left out
     refused-opening f z =
-        (numbered, (l, (never f, ((λ _. z), (never f, ((λ _. exactly), ((λ g. absurd (g long)), (never f, (never f, (never f, ((λ _. in-order), refused-whole _ f)))))))))))
+        (numbered, (l, (never f, ((λ _. z), (never f, ((λ _. exactly), ((λ g. absurd (g long)), refused-later _ f λ _. in-order)))))))

@@ -1,7 +1,6 @@
 -- What opening finds at each stage is one thing alone, so a stage refuses with one number. Assumes nothing.
 use Prim.Native.Nat.{ℕ}
 use mathlib.Core.Path.{_≡_, refl, sym, _∙_}
-use mathlib.Core.Option.{Option, Option·some-inj}
 use mathlib.Core.List.{List, [], _∷_, reverse}
 use native.Mathlib.Omega.{arith}
 use Rattle.format.proofs.Answers.{given-inj, refused-inj}

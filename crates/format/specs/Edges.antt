@@ -100,11 +100,11 @@ pub record Starred : Type 0 where
   pub level-13 : read (oneTrue 13) 0 .stop ≡ fault 10
   -- "colour 0x00332211: 0x11, 0x22, 0x33."
   pub colour : planeOf 0x00332211 ≡ given (record { named = 0; name = 0; units = 0; colored = 1; red = 0x11; green = 0x22; blue = 0x33 })
-  -- change request 4, in place of the line by which an eCompression of 2.9 passed: "So 2.9 now gives 12 as not stated"; 1.9 gives 12 as before, and 2.0 passes
+  -- change request 4, in place of the line by which an eCompression of 2.9 passed: 2.9 states nothing, so it gives 12; 1.9 gives 12 as before, and 2.0 passes
   pub compression-2·9 : attributesOf 14 0x4007333333333333 ≡ refused 12
   pub compression-1·9 : attributesOf 14 0x3FFE666666666666 ≡ refused 12
   pub compression-2·0 : attributesOf 14 0x4000000000000000 ≡ given (shaped 14)
-  -- "and eType 1.5 means no loop"; 1.0 means one
+  -- an eType of 1.5 is no loop, 1.0 is one
   pub type-1·5 : timesOf 0x3FF8000000000000 ≡ given []
   pub type-1·0 : timesOf 0x3FF0000000000000 ≡ given (timesThree ∷ [])
   -- "dZHigh 10, dZLow −10, uiCount 11: 2.0. uiCount 1: none."

@@ -25,18 +25,18 @@ oneIf false = 0
 abbrev pub withSign : Bool → ℕ → ℤ
 withSign minus n = cond minus (negℤ (pos n)) (pos n)
 
--- the size of a double, m × 2^e, where it is whole: 2^e is a fraction, and dividing by what is below its line leaves nothing
+-- the size m × 2^e of a double, where it is whole: as a fraction of two whole numbers it divides and leaves nothing over
 unfoldable pub wholeSize : ℕ → ℤ → Option ℕ
 wholeSize m e = cond (eqb (m * up e % down e) 0) (some (m * up e / down e)) none
 
--- "a double with a fraction, NaN, an infinity .. counts as absent" (change request 4); −0 is 0
+-- the whole number that a double is: a fraction, a NaN or an infinity is none (change request 4), and −0 is 0
 unfoldable pub wholeDouble : Float → Option ℤ
 unfolding wholeSize
 wholeDouble nan = none
 wholeDouble (inf s) = none
 wholeDouble (fin s m e) = mapOption (withSign s) (wholeSize m e)
 
--- the whole number that a value is: "Flags read as 0 or 1."
+-- the whole number that a value is
 unfoldable pub wholeNumber : Value → Option ℤ
 unfolding wholeDouble
 wholeNumber (flag b) = some (pos (oneIf b))

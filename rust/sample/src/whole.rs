@@ -38,6 +38,13 @@ pub struct Field {
 }
 
 impl Field {
+    const fn signed(self) -> Field {
+        Field {
+            signed: true,
+            ..self
+        }
+    }
+
     /// The file with this double in the field.
     pub fn with_double(&self, bits: u64) -> Vec<u8> {
         (self.file)(Some(double_bits(self.name, bits)))
@@ -57,7 +64,8 @@ impl Field {
     }
 }
 
-const fn unsigned(
+/// A field that is read unsigned.
+const fn field(
     label: &'static str,
     name: &'static str,
     usual: u32,
@@ -72,43 +80,32 @@ const fn unsigned(
     }
 }
 
-const fn signed(
-    label: &'static str,
-    name: &'static str,
-    usual: u32,
-    file: fn(Option<Record>) -> Vec<u8>,
-) -> Field {
-    Field {
-        signed: true,
-        ..unsigned(label, name, usual, file)
-    }
-}
-
 pub static FIELDS: [Field; 14] = [
-    unsigned("uiWidth", "uiWidth", 2, |r| sized("uiWidth", r)),
-    unsigned("uiWidthBytes", "uiWidthBytes", 2, |r| {
+    field("uiWidth", "uiWidth", 2, |r| sized("uiWidth", r)),
+    field("uiWidthBytes", "uiWidthBytes", 2, |r| {
         sized("uiWidthBytes", r)
     }),
-    unsigned("uiHeight", "uiHeight", 2, |r| sized("uiHeight", r)),
-    unsigned("uiComp", "uiComp", 2, |r| sized("uiComp", r)),
-    unsigned("uiBpcInMemory", "uiBpcInMemory", 16, |r| {
+    field("uiHeight", "uiHeight", 2, |r| sized("uiHeight", r)),
+    field("uiComp", "uiComp", 2, |r| sized("uiComp", r)),
+    field("uiBpcInMemory", "uiBpcInMemory", 16, |r| {
         sized("uiBpcInMemory", r)
     }),
-    signed("eCompression", "eCompression", 2, |r| {
+    field("eCompression", "eCompression", 2, |r| {
         sized("eCompression", r)
-    }),
-    signed("eType", "eType", POINTS, typed),
-    unsigned("uiCount", "uiCount", 2, counted),
-    unsigned("pItemValid", "", 2, valid),
-    unsigned("pPlanes.uiCount", "uiCount", 2, |r| spectral(3, r)),
-    signed("eType of z", "eType", FOCUS, z_typed),
-    unsigned("uiCount of z", "uiCount", 2, z_counted),
-    unsigned("uiColor", "uiColor", 2, colored),
-    unsigned("uiCompCount", "uiCompCount", 2, covering),
+    })
+    .signed(),
+    field("eType", "eType", POINTS, typed).signed(),
+    field("uiCount", "uiCount", 2, counted),
+    field("pItemValid", "", 2, valid),
+    field("pPlanes.uiCount", "uiCount", 2, |r| spectral(3, r)),
+    field("eType of z", "eType", FOCUS, z_typed).signed(),
+    field("uiCount of z", "uiCount", 2, z_counted),
+    field("uiColor", "uiColor", 2, colored),
+    field("uiCompCount", "uiCompCount", 2, covering),
 ];
 
 /// The planes' count of a spectral loop once more, beside a count that is too large: it shows that the planes' is taken.
-pub static PREFERRED: Field = unsigned("pPlanes.uiCount before 1,000,001", "uiCount", 2, |r| {
+pub static PREFERRED: Field = field("pPlanes.uiCount before 1,000,001", "uiCount", 2, |r| {
     spectral(1_000_001, r)
 });
 
