@@ -6,7 +6,7 @@ use mathlib.Core.Logic.{_⊎_, inl, inr, _↔_}
 use mathlib.Core.Bool.{Bool, true, false, cond, true≢false, false≢true}
 use mathlib.Core.Option.{Option, none, some, Option·some-inj}
 use native.Mathlib.Nat.{add-zero, zero-mul, eq-zero-or-pos, mul-one, mul-right-comm, mul-mod-left, mul-div-cancel, mul-le-mul-right, mul-lt-mul-of-pos-right}
-use native.Mathlib.Nat.{mul-pos, zero-lt-suc, mod-lt, div-add-mod', add-mul, one-mul}
+use native.Mathlib.Nat.{mod-lt, div-add-mod', add-mul, one-mul}
 use native.Mathlib.Nat.{eq-of-mul-eq-mul-right, lt-of-mul-lt-mul-right, le-of-mul-le-mul-right}
 use native.Mathlib.Omega.{arith}
 use borrow.Author.Tests.{ltb-true, ltb-false, lt-ltb, le-ltb, eqb-true}
@@ -22,7 +22,7 @@ use Rattle.format.specs.Numbers.{withSign, wholeSize, wholeDouble, whole
 use Rattle.format.specs.Grammar.Numbers as rules
 use Rattle.format.specs.Grammar.Numbers.{Equals, plus, minus-zero, minus, Number, unset, set, stored, of-double}
 use Rattle.format.specs.Grammar.Numbers.{ReadsUnsigned, ReadsSigned, not-below-0, below-0}
-use Rattle.format.specs.Grammar.Numbers.{Measures, Fraction, NotUnsigned, NotSigned}
+use Rattle.format.specs.Grammar.Numbers.{Measures, Fraction, NotWhole, NotUnsigned, NotSigned}
 
 -- ---- the size of a double, m × 2^e
 
@@ -197,119 +197,90 @@ whole-or-not s m e =
 whole-value : (s : Bool) (m : ℕ) (e : ℤ) (n : ℕ) → m * up e ≡ n * down e → Measures (fin s m e) s (n * down e) (down e)
 whole-value s m e n h = record { unit-some = down-pos e; value = (refl, ap (λ (z : ℕ). z * down e) h) }
 
--- ---- read unsigned
+-- ---- no whole number from −low on and below the limit
 
--- of the whole ones, those below 0 and those from the limit on
-outside-unsigned : (limit : ℕ) (x : Float) → NotUnsigned limit x → (s : Bool) (n : ℕ) → HasValue x s n 1
-    → ((s ≡ true) × (0 < n)) ⊎ ((s ≡ false) × (limit ≤ n))
-outside-unsigned limit x rules.not-a-number s n h = absurd h
-outside-unsigned limit x rules.infinite s n h = absurd h
-outside-unsigned limit x (rules.fraction f) s n h = absurd (no-fraction x f s n h)
-outside-unsigned limit x (rules.below-zero {size = a} {unit = c} k p) s n h =
-    let (b, e) = one-size x true s a c n (k .value) h in
-    inl (sym b, lt-of-mul-lt-mul-right c (rw (zero-mul c) (rw e at p)))
-outside-unsigned limit x (rules.too-large {size = a} {unit = c} k p) s n h =
-    let (b, e) = one-size x false s a c n (k .value) h in
-    inr (sym b, le-of-mul-le-mul-right (rw e at p) (k .unit-some))
+module _ (low limit : ℕ) where
+  -- of the whole ones, those below and those from the limit on
+  outside : (x : Float) → NotWhole low limit x → (s : Bool) (n : ℕ) → HasValue x s n 1 → ((s ≡ true) × (low < n)) ⊎ ((s ≡ false) × (limit ≤ n))
+  outside x rules.not-a-number s n h = absurd h
+  outside x rules.infinite s n h = absurd h
+  outside x (rules.fraction f) s n h = absurd (no-fraction x f s n h)
+  outside x (rules.too-small {size = a} {unit = c} k p) s n h =
+      let (b, e) = one-size x true s a c n (k .value) h in
+      inl (sym b, lt-of-mul-lt-mul-right c (rw e at p))
+  outside x (rules.too-large {size = a} {unit = c} k p) s n h =
+      let (b, e) = one-size x false s a c n (k .value) h in
+      inr (sym b, le-of-mul-le-mul-right (rw e at p) (k .unit-some))
 
-not-unsigned-refutes : (limit : ℕ) (x : Float) → NotUnsigned limit x → (n : ℕ) → Equals x (pos n) → n < limit → ⊥
-not-unsigned-refutes limit x y n (plus h) l = elim (outside-unsigned limit x y false n h) [
-  | inl o ↦ false≢true (o .0)
-  | inr o ↦ let k = o .1 in omega arith
-]
-not-unsigned-refutes limit x y n (minus-zero h) l = elim (outside-unsigned limit x y true 0 h) [
-  | inl o ↦ let k = o .1 in omega arith
-  | inr o ↦ true≢false (o .0)
-]
+  not-above : (x : Float) → NotWhole low limit x → (n : ℕ) → Equals x (pos n) → n < limit → ⊥
+  not-above x y n (plus h) l = elim (outside x y false n h) [
+    | inl o ↦ false≢true (o .0)
+    | inr o ↦ let k = o .1 in omega arith
+  ]
+  not-above x y n (minus-zero h) l = elim (outside x y true 0 h) [
+    | inl o ↦ let k = o .1 in omega arith
+    | inr o ↦ true≢false (o .0)
+  ]
 
-unsigned-missing : (limit : ℕ) → 0 < limit → (x : Float) → ((n : ℕ) → Equals x (pos n) → n < limit → ⊥) → NotUnsigned limit x
-unsigned-missing limit L nan f = rules.not-a-number
-unsigned-missing limit L (inf s) f = rules.infinite
-unsigned-missing limit L (fin s m e) f = elim (whole-or-not s m e) [
-  | inl w ↦ go s (w .0) (w .1) f
-  | inr y ↦ rules.fraction y
-]
-  where
-    go : (s : Bool) (n : ℕ) → m * up e ≡ n * down e → ((n : ℕ) → Equals (fin s m e) (pos n) → n < limit → ⊥) → NotUnsigned limit (fin s m e)
-    go false n h f = by (ltb n limit) refl
-      where
-        by : (b : Bool) → ltb n limit ≡ b → NotUnsigned limit (fin false m e)
-        by true t = absurd (f n (signed-size false m e n h) (ltb-true n limit t))
-        by false t = rules.too-large (whole-value false m e n h) (mul-le-mul-right (down e) (ltb-false n limit t))
-    go true zero h f = absurd (f 0 (signed-size true m e 0 h) L)
-    go true (suc n) h f = rules.below-zero (whole-value true m e (suc n) h) (mul-pos (zero-lt-suc n) (down-pos e))
+  not-below : (x : Float) → NotWhole low limit x → (n : ℕ) → Equals x (negsuc n) → n < low → ⊥
+  not-below x y n (minus h) l = elim (outside x y true (suc n) h) [
+    | inl o ↦ let k = o .1 in omega arith
+    | inr o ↦ true≢false (o .0)
+  ]
 
--- ---- read signed
-
--- of the whole ones, those below −2^63 and those from 2^63 on
-outside-signed : (x : Float) → NotSigned x → (s : Bool) (n : ℕ) → HasValue x s n 1 → ((s ≡ true) × (2 ^ 63 < n)) ⊎ ((s ≡ false) × (2 ^ 63 ≤ n))
-outside-signed x rules.not-a-number s n h = absurd h
-outside-signed x rules.infinite s n h = absurd h
-outside-signed x (rules.fraction f) s n h = absurd (no-fraction x f s n h)
-outside-signed x (rules.too-small {size = a} {unit = c} k p) s n h =
-    let (b, e) = one-size x true s a c n (k .value) h in
-    inl (sym b, lt-of-mul-lt-mul-right c (rw e at p))
-outside-signed x (rules.too-large {size = a} {unit = c} k p) s n h =
-    let (b, e) = one-size x false s a c n (k .value) h in
-    inr (sym b, le-of-mul-le-mul-right (rw e at p) (k .unit-some))
-
-not-signed-refutes : (x : Float) → NotSigned x → (z : ℤ) → ReadsSigned (double x) z → ⊥
-not-signed-refutes x y z (not-below-0 (of-double (plus {n = n} h)) l) = elim (outside-signed x y false n h) [
-  | inl o ↦ false≢true (o .0)
-  | inr o ↦ let k = o .1 in omega arith
-]
-not-signed-refutes x y z (not-below-0 (of-double (minus-zero h)) l) = elim (outside-signed x y true 0 h) [
-  | inl o ↦ let k = o .1 in omega arith
-  | inr o ↦ true≢false (o .0)
-]
-not-signed-refutes x y z (below-0 (of-double (minus {n = n} h)) l) = elim (outside-signed x y true (suc n) h) [
-  | inl o ↦ let k = o .1 in omega arith
-  | inr o ↦ true≢false (o .0)
-]
-
-signed-missing : (x : Float) → ((z : ℤ) → ReadsSigned (double x) z → ⊥) → NotSigned x
-signed-missing nan f = rules.not-a-number
-signed-missing (inf s) f = rules.infinite
-signed-missing (fin s m e) f = elim (whole-or-not s m e) [
-  | inl w ↦ go s (w .0) (w .1) f
-  | inr y ↦ rules.fraction y
-]
-  where
-    go : (s : Bool) (n : ℕ) → m * up e ≡ n * down e → ((z : ℤ) → ReadsSigned (double (fin s m e)) z → ⊥) → NotSigned (fin s m e)
-    go false n h f = by (ltb n (2 ^ 63)) refl
-      where
-        by : (b : Bool) → ltb n (2 ^ 63) ≡ b → NotSigned (fin false m e)
-        by true t = absurd (f (pos n) (not-below-0 (of-double (signed-size false m e n h)) (ltb-true n (2 ^ 63) t)))
-        by false t = rules.too-large (whole-value false m e n h) (mul-le-mul-right (down e) (ltb-false n (2 ^ 63) t))
-    go true zero h f = absurd (f (pos 0) (not-below-0 (of-double (signed-size true m e 0 h)) (lit< tt)))
-    go true (suc n) h f = by (ltb n (2 ^ 63)) refl
-      where
-        by : (b : Bool) → ltb n (2 ^ 63) ≡ b → NotSigned (fin true m e)
-        by true t = absurd (f (negsuc n) (below-0 (of-double (signed-size true m e (suc n) h)) (ltb-true n (2 ^ 63) t)))
-        by false t = let o = ltb-false n (2 ^ 63) t in rules.too-small (whole-value true m e (suc n) h) (mul-lt-mul-of-pos-right (omega arith) (down-pos e))
+  -- and every double that is none of these is such a whole number
+  missing : 0 < limit → (x : Float) → ((n : ℕ) → Equals x (pos n) → n < limit → ⊥) → ((n : ℕ) → Equals x (negsuc n) → n < low → ⊥) → NotWhole low limit x
+  missing L nan f g = rules.not-a-number
+  missing L (inf s) f g = rules.infinite
+  missing L (fin s m e) f g = elim (whole-or-not s m e) [
+    | inl w ↦ go s (w .0) (w .1) f g
+    | inr y ↦ rules.fraction y
+  ]
+    where
+      go : (s : Bool) (n : ℕ) → m * up e ≡ n * down e → ((n : ℕ) → Equals (fin s m e) (pos n) → n < limit → ⊥)
+          → ((n : ℕ) → Equals (fin s m e) (negsuc n) → n < low → ⊥) → NotWhole low limit (fin s m e)
+      go false n h f g = by (ltb n limit) refl
+        where
+          by : (b : Bool) → ltb n limit ≡ b → NotWhole low limit (fin false m e)
+          by true t = absurd (f n (signed-size false m e n h) (ltb-true n limit t))
+          by false t = rules.too-large (whole-value false m e n h) (mul-le-mul-right (down e) (ltb-false n limit t))
+      go true zero h f g = absurd (f 0 (signed-size true m e 0 h) L)
+      go true (suc n) h f g = by (ltb n low) refl
+        where
+          by : (b : Bool) → ltb n low ≡ b → NotWhole low limit (fin true m e)
+          by true t = absurd (g n (signed-size true m e (suc n) h) (ltb-true n low t))
+          by false t =
+              let o = ltb-false n low t in
+              rules.too-small (whole-value true m e (suc n) h) (mul-lt-mul-of-pos-right (omega arith) (down-pos e))
 
 -- ---- a double counts as absent just where it is one of those
 
 pub unsigned-absent : (x : Float) → NotUnsigned (2 ^ 64) x ↔ (unsigned (double x) ≡ none)
 unsigned-absent x = (
   λ y. none-of _ (unsigned-of (double x)) λ n r. reading y n (r .number) (r .in-u64),
-  λ q. unsigned-missing (2 ^ 64) (lit< tt) x λ n h l. no-such _ (unsigned-of (double x)) q n (record { number = of-double h; in-u64 = l }),
+  λ q. missing 0 (2 ^ 64) (lit< tt) x (λ n h l. no-such _ (unsigned-of (double x)) q n (record { number = of-double h; in-u64 = l })) λ n h l. omega arith,
 )
   where
     reading : NotUnsigned (2 ^ 64) x → (n : ℕ) → Number (double x) (pos n) → n < 2 ^ 64 → ⊥
-    reading y n (of-double h) l = not-unsigned-refutes (2 ^ 64) x y n h l
+    reading y n (of-double h) l = not-above 0 (2 ^ 64) x y n h l
 
 pub signed-absent : (x : Float) → NotSigned x ↔ (signed (double x) ≡ none)
 signed-absent x = (
-  λ y. none-of _ (signed-of (double x)) λ z r. not-signed-refutes x y z r,
-  λ q. signed-missing x λ z r. no-such _ (signed-of (double x)) q z r,
+  λ y. none-of _ (signed-of (double x)) λ z r. reading y z r,
+  λ q.
+      missing (2 ^ 63) (2 ^ 63) (lit< tt) x (λ n h l. no-such _ (signed-of (double x)) q (pos n) (not-below-0 (of-double h) l))
+      λ n h l. no-such _ (signed-of (double x)) q (negsuc n) (below-0 (of-double h) l),
 )
+  where
+    reading : NotSigned x → (z : ℤ) → ReadsSigned (double x) z → ⊥
+    reading y z (not-below-0 {n = n} (of-double h) l) = not-above (2 ^ 63) (2 ^ 63) x y n h l
+    reading y z (below-0 {n = n} (of-double h) l) = not-below (2 ^ 63) (2 ^ 63) x y n h l
 
 pub u32-absent : (x : Float) → NotUnsigned (2 ^ 32) x ↔ (below32 (unsigned (double x)) ≡ none)
-u32-absent x = (λ y. there y (unsigned (double x)) refl, λ q. unsigned-missing (2 ^ 32) (lit< tt) x (back q))
+u32-absent x = (λ y. there y (unsigned (double x)) refl, λ q. missing 0 (2 ^ 32) (lit< tt) x (back q) λ n h l. omega arith)
   where
     reading : NotUnsigned (2 ^ 32) x → (n : ℕ) → Number (double x) (pos n) → n < 2 ^ 32 → ⊥
-    reading y n (of-double h) l = not-unsigned-refutes (2 ^ 32) x y n h l
+    reading y n (of-double h) l = not-above 0 (2 ^ 32) x y n h l
 
     there : NotUnsigned (2 ^ 32) x → (o : Option ℕ) → unsigned (double x) ≡ o → below32 o ≡ none
     there y none q = unfold below32 in refl
@@ -347,7 +318,7 @@ pub large-unsigned : (v : Float) (a c : ℕ) → 0 < c → HasValue v false a c 
 large-unsigned v a c C h l = unsigned-absent v .0 (rules.too-large (record { unit-some = C; value = h }) l)
 
 pub below-unsigned : (v : Float) (a c : ℕ) → 0 < c → HasValue v true a c → 0 < a → unsigned (double v) ≡ none
-below-unsigned v a c C h l = unsigned-absent v .0 (rules.below-zero (record { unit-some = C; value = h }) l)
+below-unsigned v a c C h l = unsigned-absent v .0 (rules.too-small (record { unit-some = C; value = h }) (rw (zero-mul c) l))
 
 -- ---- and by its sign
 

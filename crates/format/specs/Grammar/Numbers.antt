@@ -55,21 +55,21 @@ pub record Fraction (x : Float) : Type 0 where
   pub above : whole-part * unit < size
   pub below : size < (whole-part + 1) * unit
 
--- not a whole number from 0 on below the limit: 2^64 for a u64, 2^32 for a u32
-pub data NotUnsigned (limit : ℕ) : Float → Type 0 where
-  not-a-number : NotUnsigned limit nan
-  infinite : {sign : Bool} → NotUnsigned limit (inf sign)
-  fraction : {x : Float} → Fraction x → NotUnsigned limit x
-  below-zero : {x : Float} {size unit : ℕ} → Measures x true size unit → 0 < size → NotUnsigned limit x
-  too-large : {x : Float} {size unit : ℕ} → Measures x false size unit → limit * unit ≤ size → NotUnsigned limit x
+-- x is no whole number from −low on and below the limit
+pub data NotWhole (low limit : ℕ) : Float → Type 0 where
+  not-a-number : NotWhole low limit nan
+  infinite : {sign : Bool} → NotWhole low limit (inf sign)
+  fraction : {x : Float} → Fraction x → NotWhole low limit x
+  too-small : {x : Float} {size unit : ℕ} → Measures x true size unit → low * unit < size → NotWhole low limit x
+  too-large : {x : Float} {size unit : ℕ} → Measures x false size unit → limit * unit ≤ size → NotWhole low limit x
 
--- not a whole number from −2^63 on below 2^63
-pub data NotSigned : Float → Type 0 where
-  not-a-number : NotSigned nan
-  infinite : {sign : Bool} → NotSigned (inf sign)
-  fraction : {x : Float} → Fraction x → NotSigned x
-  too-small : {x : Float} {size unit : ℕ} → Measures x true size unit → 2 ^ 63 * unit < size → NotSigned x
-  too-large : {x : Float} {size unit : ℕ} → Measures x false size unit → 2 ^ 63 * unit ≤ size → NotSigned x
+-- from 0 on: the limit is 2^64 for a u64, 2^32 for a u32
+abbrev pub NotUnsigned : ℕ → Float → Type 0
+NotUnsigned limit = NotWhole 0 limit
+
+-- an i64 has the numbers from −2^63 on and below 2^63
+abbrev pub NotSigned : Float → Type 0
+NotSigned = NotWhole (2 ^ 63) (2 ^ 63)
 
 -- ---- fields
 
