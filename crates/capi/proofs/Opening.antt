@@ -65,37 +65,21 @@ module _ (file table b : List ℕ) where
     in-order : FirstAt (OpenRefusal file (roomIn (length table))) openOrder n
     in-order = rw e (first .open-number file table)
 
+    -- of one that accepts
+    opened-later : (out : List ℕ) → openCall file table .number ≡ 0 → summaryFrom out ≡ some (openCall file table .summary) → Later n out
+    opened-later out o s =
+        let sound = third .opened-sound file table o in
+        let whole : WholeNeeded file n = rw e (whole-numbers .open-whole file table) in
+        let typed : n ≡ 0 → Said out (WholeTyped file) = λ _. (_, s, whole-numbers .open-typed file table o) in
+        let different : n ≡ 0 → Said out (λ u. Different (loopsOf u)) = λ _. (_, s, third .frames-different file _ sound) in
+        ((λ _. (_, s, third .returns-theirs file table o)), ((λ _. (_, s, sound)), (different, ((λ _. in-order), (whole, typed)))))
+
     pub opened-stored : {u : Summary} {out : List ℕ} → u ≡ openCall file table .summary → n ≡ 0 → out ≡ summaryBytes u → summaryFrom out ≡ some u
         → Promised n left out
     opened-stored {out = out} q z w s =
-        let o : openCall file table .number ≡ 0 = sym e ∙ z in
         let said : summaryFrom out ≡ some (openCall file table .summary) = s ∙ ap some q in
-        let sound = third .opened-sound file table o in
-        let whole : WholeNeeded file n = rw e (whole-numbers .open-whole file table) in (
-          numbered,
-          (
-            l,
-            (
-              (λ _. w ∙ ap summaryBytes q),
-              (
-                (λ f. absurd (f z)),
-                (
-                  (λ _. said),
-                  (
-                    (λ _. exactly),
-                    (
-                      (λ f. absurd (f long)),
-                      (
-                        (λ _. (_, said, third .returns-theirs file table o)),
-                        ((λ _. (_, said, sound)), ((λ _. (_, said, third .frames-different file _ sound)), ((λ _. in-order), (whole, λ _. (_, said, whole-numbers .open-typed file table o))))),
-                      ),
-                    ),
-                  ),
-                ),
-              ),
-            ),
-          ),
-        )
+        let later = opened-later out (sym e ∙ z) said in
+        (numbered, (l, ((λ _. w ∙ ap summaryBytes q), ((λ f. absurd (f z)), ((λ _. said), ((λ _. exactly), ((λ f. absurd (f long)), later)))))))
 
     pub refused-opening : {out : List ℕ} → Refuses n → out ≡ zeros (length b) → Promised n left out
     refused-opening f z =
