@@ -33,11 +33,12 @@ module _ (file table b : List ℕ) where
   Later n out =
       (n ≡ 0 → Said out (Joined file)) × ((n ≡ 0 → Said out (Sound file)) × ((n ≡ 0 → Said out (λ u. Different (loopsOf u)))
       × ((length b ≡ 144 → FirstAt (OpenRefusal file (roomIn (length table))) openOrder n)
-      × (WholeNeeded file n × (n ≡ 0 → Said out (WholeTyped file))))))
+      × ((length b ≡ 144 → WholeNeeded file (roomIn (length table)) n) × (n ≡ 0 → Said out (WholeTyped file))))))
 
   -- of a refused opening
-  refused-later : {n : ℕ} (out : List ℕ) → Refuses n → (length b ≡ 144 → FirstAt (OpenRefusal file (roomIn (length table))) openOrder n) → Later n out
-  refused-later out f o = (never f, (never f, (never f, (o, ((λ es i name x t there s y. f), never f)))))
+  refused-later : {n : ℕ} (out : List ℕ) → Refuses n → (length b ≡ 144 → FirstAt (OpenRefusal file (roomIn (length table))) openOrder n)
+      → (length b ≡ 144 → WholeNeeded file (roomIn (length table)) n) → Later n out
+  refused-later out f o w = (never f, (never f, (never f, (o, (w, never f)))))
 
   -- the call's number, table and summary, and the sentences that follow
   abbrev pub Promised : ℕ → List ℕ → List ℕ → Type 0
@@ -51,7 +52,7 @@ module _ (file table b : List ℕ) where
   refused-length f l z =
       let no : Refuses why.summary = λ q. omega arith in
       let number : why.summary ≡ openOn file table b = rw (ne-eqb (length b) 144 f) refl in
-      (number, (l, (never no, ((λ _. z), (never no, ((λ q. absurd (f q)), ((λ _. refl), refused-later _ no λ q. absurd (f q))))))))
+      (number, (l, (never no, ((λ _. z), (never no, ((λ q. absurd (f q)), ((λ _. refl), refused-later _ no (λ q. absurd (f q)) λ q. absurd (f q))))))))
 
   -- the bytes have a summary's length, so that the number is the opening's
   module _ (long : length b ≡ 144) {n : ℕ} (e : n ≡ openCall file table .number) {left : List ℕ} (l : left ≡ zeros (length table)) where
@@ -65,14 +66,16 @@ module _ (file table b : List ℕ) where
     in-order : FirstAt (OpenRefusal file (roomIn (length table))) openOrder n
     in-order = rw e (first .open-number file table)
 
+    whole : WholeNeeded file (roomIn (length table)) n
+    whole = rw e (whole-numbers .open-whole file table)
+
     -- of one that accepts
     opened-later : (out : List ℕ) → openCall file table .number ≡ 0 → summaryFrom out ≡ some (openCall file table .summary) → Later n out
     opened-later out o s =
         let sound = third .opened-sound file table o in
-        let whole : WholeNeeded file n = rw e (whole-numbers .open-whole file table) in
         let typed : n ≡ 0 → Said out (WholeTyped file) = λ _. (_, s, whole-numbers .open-typed file table o) in
         let different : n ≡ 0 → Said out (λ u. Different (loopsOf u)) = λ _. (_, s, third .frames-different file _ sound) in
-        ((λ _. (_, s, third .returns-theirs file table o)), ((λ _. (_, s, sound)), (different, ((λ _. in-order), (whole, typed)))))
+        ((λ _. (_, s, third .returns-theirs file table o)), ((λ _. (_, s, sound)), (different, ((λ _. in-order), ((λ _. whole), typed)))))
 
     pub opened-stored : {u : Summary} {out : List ℕ} → u ≡ openCall file table .summary → n ≡ 0 → out ≡ summaryBytes u → summaryFrom out ≡ some u
         → Promised n left out
@@ -83,4 +86,4 @@ module _ (file table b : List ℕ) where
 
     pub refused-opening : {out : List ℕ} → Refuses n → out ≡ zeros (length b) → Promised n left out
     refused-opening f z =
-        (numbered, (l, (never f, ((λ _. z), (never f, ((λ _. exactly), ((λ g. absurd (g long)), refused-later _ f λ _. in-order)))))))
+        (numbered, (l, (never f, ((λ _. z), (never f, ((λ _. exactly), ((λ g. absurd (g long)), refused-later _ f (λ _. in-order) λ _. whole)))))))

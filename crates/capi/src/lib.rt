@@ -58,7 +58,8 @@ pub extern "C" fn nd2_open(file: &[u8], table: &mut [u8], summary: &mut [u8]) ->
     ensures different { λ r. ⌜ (r ≡ 0 → Said (now (summary .exit)) (λ u. Different (loopsOf u))) ⌝ }
     ensures first { λ r. ⌜ (length (now (summary .entry)) ≡ 144
         → FirstAt (OpenRefusal (now (file .entry)) (roomIn (length (now (table .entry))))) openOrder r) ⌝ }
-    ensures whole { λ r. ⌜ WholeNeeded (now (file .entry)) r ⌝ }
+    ensures whole { λ r. ⌜ (length (now (summary .entry)) ≡ 144
+        → WholeNeeded (now (file .entry)) (roomIn (length (now (table .entry)))) r) ⌝ }
     ensures typed { λ r. ⌜ (r ≡ 0 → Said (now (summary .exit)) (WholeTyped (now (file .entry)))) ⌝ }
 {
     clear(summary);

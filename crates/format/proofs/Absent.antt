@@ -1,22 +1,29 @@
 -- What a double that counts as absent means, field by field. Assumes nothing.
-use Prim.Native.Nat.{ℕ, suc, _^_}
-use mathlib.Core.Path.{_≡_, refl, sym, _∙_}
+use Prim.Native.Nat.{ℕ, suc, _^_, _≤_}
+use mathlib.Core.Path.{_≡_, refl, sym, ap, _∙_}
 use mathlib.Core.Logic.{_↔_}
+use mathlib.Core.Bool.{Bool, true, false}
 use mathlib.Core.Option.{Option, none, some}
 use mathlib.Core.List.{List, [], _∷_, reverse}
+use lib.ListN.{length}
+use lib.Dec.{ltb}
 use lib.IntN.{pos}
 use lib.Ieee.{Float}
+use borrow.Author.Tests.{ltb-true, ltb-false}
 use Rattle.format.proofs.Answers.{none≢some, go-on, found}
 use Rattle.format.proofs.Rules.{no-such, only-one}
 use Rattle.format.proofs.Means.{Means}
-use Rattle.format.proofs.Named.{tree-means}
+use Rattle.format.proofs.Trees.{passed-read}
+use Rattle.format.proofs.Named.{read-range, read-mapped, given-tree, tree-means}
 use Rattle.format.proofs.OpenParts.{tree-at-unique}
 use Rattle.format.proofs.Demands.{third}
 use Rattle.format.proofs.Wholes.{unsigned-of, unsigned-absent, u32-absent, signed-absent, some-below}
 use Rattle.format.proofs.Fields.{field-in, level-in, level-at, unsigned-in, signed-in}
-use Rattle.format.specs.Answer.{Answer, given, refused, andThen, orRefuse, refuseIf}
+use Rattle.format.specs.Answer.{Answer, given, refused, andThen, orRefuse, refuseIf, numberOf}
 use Rattle.format.specs.Bytes.{ascii}
 use Rattle.format.specs.Chunks.{dataIn}
+use Rattle.format.specs.Map.{mapRange, mapEntries}
+use Rattle.format.specs.Trees.{treeIn, namedTree, roomIn}
 use Rattle.format.specs.Loops.{Built}
 use Rattle.format.specs.Refusals as why
 use Rattle.format.specs.Values.{double, level, field, fieldIn, asLevel, bind}
@@ -30,11 +37,12 @@ use Rattle.format.specs.Grammar.Loops.{UiCount, unstated, SpectralCount,
 use Rattle.format.specs.Grammar.Calibration.{stated, spanned, NoStep}
 use Rattle.format.specs.Grammar.Channels.{Colored, no-color, Covers, unsaid}
 use Rattle.format.specs.Requests.{CountsAsAbsent}
-use Rattle.format.specs.Sentences.{SizeField, width, row-bytes, height, components, bits, NotStated, size, compression, WholeNeeded, WholeTyped}
+use Rattle.format.specs.Sentences.{SizeField, width, row-bytes, height, components, bits}
+use Rattle.format.specs.Sentences.{NotStated, size, compression, WholeNeeded, WholeTyped}
 use Rattle.format.specs.Grammar.Map.{Named}
 use Rattle.format.specs.Grammar.File.{Joined}
-use Rattle.format.specs.Refused.Open.{Needed, needed, ChunkAt, TreeAt}
-use Rattle.format.specs.Calls.Open.{openCall}
+use Rattle.format.specs.Refused.Open.{Needed, needed, ChunkAt, TreeAt, TooMany}
+use Rattle.format.specs.Calls.Open.{opened, openCall}
 use Rattle.format.specs.declared.Range.{Range}
 use Rattle.format.specs.declared.Entry.{Entry}
 use Rattle.format.specs.declared.Loop.{Loop}
@@ -234,9 +242,58 @@ module _ (s : List ℕ) (u : Summary) (J : Joined s u) where
       let ls : LoopsOf s es i (J .loops) = rw (← e, l) at (J .loops-of) in
       J .summary .loops-used ∙ no-loop s es m i x (J .loops) f z ls
 
-pub open-whole : (file table : List ℕ) → WholeNeeded file (openCall file table .number)
-open-whole file table es i name x T there f n e =
-    joined-whole file (openCall file table .summary) (third .returns-theirs file table e) es i name x T there f n
+-- ---- of an opening
 
-pub open-typed : (file table : List ℕ) → openCall file table .number ≡ 0 → WholeTyped file (openCall file table .summary)
-open-typed file table e = joined-typed file (openCall file table .summary) (third .returns-theirs file table e)
+stopped : {A B : Type 0} (x : Answer A) (k : A → Answer B) (n : ℕ) → x ≡ refused n → andThen x k ≡ refused n
+unfolding andThen
+stopped x k n e = rw e refl
+
+-- an opening stops where its attributes do, unless the table is too short
+attributes-stop : (s : List ℕ) (room : ℕ) (es : List Entry) (n : ℕ) → TreeAt s (needed Needed.attributes) es
+    → (TooMany s (needed Needed.attributes) room → ⊥) → attributes s es ≡ refused n → opened s room ≡ refused n
+unfolding opened ascii
+attributes-stop s room es n T f e =
+    let c = T .chunk in
+    let r = c .map-place in
+    let ms = c .map-entries in
+    let l = fits (ltb room (length (treeIn s (T .place) .entries))) refl in
+    go-on (mapRange s) _ r (read-range s r ms (c .mapped))
+    (go-on (mapEntries (dataIn s r)) _ ms (read-mapped s r ms (c .mapped))
+    (go-on (namedTree s (dataIn s r) ms room (ascii "ImageAttributesLV!")) _ es
+    (given-tree s (dataIn s r) ms (ascii "ImageAttributesLV!") room es (T .place) (c .named) (T .formed) l)
+    (stopped (attributes s es) _ n e)))
+  where
+    fits : (b : Bool) → ltb room (length (treeIn s (T .place) .entries)) ≡ b → length (treeIn s (T .place) .entries) ≤ room
+    fits true l =
+        absurd (f
+        (record {
+          place = T .place;
+          chunk = T .chunk;
+          count = length (treeIn s (T .place) .entries);
+          passed = passed-read s (T .place);
+          too-many = ltb-true room (length (treeIn s (T .place) .entries)) l;
+        }))
+    fits false l = ltb-false room (length (treeIn s (T .place) .entries)) l
+
+module _ (file table : List ℕ) where
+  numbered : (n : ℕ) → opened file (roomIn (length table)) ≡ refused n → openCall file table .number ≡ n
+  unfolding openCall numberOf
+  numbered n e = ap numberOf e
+
+  refuses : (es : List Entry) (n : ℕ) → TreeAt file (needed Needed.attributes) es → (TooMany file (needed Needed.attributes) (roomIn (length table)) → ⊥)
+      → attributes file es ≡ refused n → openCall file table .number ≡ n
+  refuses es n T f e = numbered n (attributes-stop file (roomIn (length table)) es n T f e)
+
+  means : {es : List Entry} → TreeAt file (needed Needed.attributes) es → Means file es
+  means {es} T = tree-means file (T .place) es (T .formed)
+
+  pub open-whole : WholeNeeded file (roomIn (length table)) (openCall file table .number)
+  open-whole = record {
+    not-opened = λ es i name x T there f n e.
+        joined-whole file (openCall file table .summary) (third .returns-theirs file table e) es i name x T there f n;
+    gives-11 = λ es i name limit x T there k f z g. refuses es why.missing T g (size-missing file es (means T) i name limit x there k f z);
+    gives-12 = λ es i a x S f z g. refuses es why.compression (S .tree) g (compression-unstated file es (means (S .tree)) i a x (S .sized) f z);
+  }
+
+  pub open-typed : openCall file table .number ≡ 0 → WholeTyped file (openCall file table .summary)
+  open-typed e = joined-typed file (openCall file table .summary) (third .returns-theirs file table e)

@@ -14,6 +14,7 @@ use Rattle.format.specs.Text.{lossy}
 use Rattle.format.specs.Refusals as why
 use Rattle.format.specs.Values.{Value, flag, whole, double, level}
 use Rattle.format.specs.Numbers.{oneIf, unsigned, signed, below32, float}
+use Rattle.format.specs.Trees.{roomIn}
 use Rattle.format.specs.Attributes.{attributes, planeBytes}
 use Rattle.format.specs.Summary.{shapeOf}
 use Rattle.format.specs.Sheets.{sheet}
@@ -133,8 +134,8 @@ pub record WholeNumbers : Type 0 where
   pub wholes-stay : (n : ℕ) → (n < 2 ^ 64 → unsigned (whole (pos n)) ≡ some n) × (n < 2 ^ 63 → signed (whole (pos n)) ≡ some (pos n))
   pub below-stay : (n : ℕ) → (unsigned (whole (negsuc n)) ≡ none) × (n < 2 ^ 63 → signed (whole (negsuc n)) ≡ some (negsuc n))
   pub doubles-stay : (x : Float) → float (double x) ≡ some x
-  -- a file that has such a double for a number that opening needs is refused, and where the outermost eType is one there is no loop
-  pub open-whole : (file table : List ℕ) → WholeNeeded file (openCall file table .number)
+  -- a file that has such a double for a number that opening needs is refused, with 11 or 12, and where the outermost eType is one there is no loop
+  pub open-whole : (file table : List ℕ) → WholeNeeded file (roomIn (length table)) (openCall file table .number)
   pub open-typed : (file table : List ℕ) → openCall file table .number ≡ 0 → WholeTyped file (openCall file table .summary)
   -- in any tree of any bytes
   pub in-fields : (s : List ℕ) (r : Range) (es : List Entry) → Tree s r es → CountsAsAbsent s es

@@ -20,12 +20,13 @@ use Rattle.format.specs.Grammar.Values.{Field}
 use Rattle.format.specs.Grammar.Numbers.{NotUnsigned, NotSigned}
 use Rattle.format.specs.Grammar.File.{Joined}
 use Rattle.format.specs.Grammar.Table.{Enough}
-use Rattle.format.specs.Refused.Open.{attributes, needed, TreeAt, ExperimentAt}
+use Rattle.format.specs.Refused.Open.{attributes, needed, TreeAt, TooMany, SizesAt, ExperimentAt}
 use Rattle.format.specs.Refused.Plane.{Within, FrameData, PlaneRefusal, Copied}
 use Rattle.format.specs.Refused.Tree.{NameData, Tabled}
 use Rattle.format.specs.declared.Range.{Range}
 use Rattle.format.specs.declared.Entry.{Entry}
 use Rattle.format.specs.declared.Loop.{Loop}
+use Rattle.format.specs.declared.Attributes.{Attributes}
 use Rattle.format.specs.declared.Summary.{Summary}
 
 -- ---- refused and accepted
@@ -121,11 +122,16 @@ pub data NotStated : List ℕ → Float → Type 0 where
   size : {name : List ℕ} {limit : ℕ} {x : Float} → SizeField name limit → NotUnsigned limit x → NotStated name x
   compression : {x : Float} → NotSigned x → NotStated (ascii "eCompression") x
 
--- an opening whose number is n refuses a file whose attributes have such a double
-abbrev pub WholeNeeded : List ℕ → ℕ → Type 0
-WholeNeeded file n =
-    (es : List Entry) (i : ℕ) (name : List ℕ) (x : Float) → TreeAt file (needed attributes) es → Field file es 0 (ascii "SLxImageAttributes") (level i)
-    → Field file es (suc i) name (double x) → NotStated name x → Refuses n
+-- An opening whose number is n, with a table of `room` entries, of a file whose attributes have such a double: it is refused. With a table that is long enough
+-- for their tree a size gives 11, and eCompression 12 where all sizes are stated.
+pub record WholeNeeded (file : List ℕ) (room n : ℕ) : Type 0 where
+  pub not-opened : (es : List Entry) (i : ℕ) (name : List ℕ) (x : Float) → TreeAt file (needed attributes) es
+      → Field file es 0 (ascii "SLxImageAttributes") (level i) → Field file es (suc i) name (double x) → NotStated name x → Refuses n
+  pub gives-11 : (es : List Entry) (i : ℕ) (name : List ℕ) (limit : ℕ) (x : Float) → TreeAt file (needed attributes) es
+      → Field file es 0 (ascii "SLxImageAttributes") (level i) → SizeField name limit → Field file es (suc i) name (double x) → NotUnsigned limit x
+      → (TooMany file (needed attributes) room → ⊥) → n ≡ why.missing
+  pub gives-12 : (es : List Entry) (i : ℕ) (a : Attributes) (x : Float) → SizesAt file es i a → Field file es (suc i) (ascii "eCompression") (double x)
+      → NotSigned x → (TooMany file (needed attributes) room → ⊥) → n ≡ why.compression
 
 -- the summary u has no loop where the outermost eType of the file is a double that counts as absent
 abbrev pub WholeTyped : List ℕ → Summary → Type 0

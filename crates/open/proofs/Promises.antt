@@ -23,7 +23,7 @@ module _ (s t : List ℕ) where
   abbrev Sentences : ℕ → Summary → Type 0
   Sentences n u =
       FirstAt (OpenRefusal s (roomIn (length t))) openOrder n × ((Refuses n → Blank u) × (OpensExactly s (roomIn (length t)) n
-      × ((n ≡ 0 → Joined s u) × ((n ≡ 0 → Sound s u) × ((n ≡ 0 → Different (loopsOf u)) × (WholeNeeded s n × (n ≡ 0 → WholeTyped s u)))))))
+      × ((n ≡ 0 → Joined s u) × ((n ≡ 0 → Sound s u) × ((n ≡ 0 → Different (loopsOf u)) × (WholeNeeded s (roomIn (length t)) n × (n ≡ 0 → WholeTyped s u)))))))
 
   abbrev Promised : Opened → List ℕ → Type 0
   Promised r out =
@@ -32,7 +32,7 @@ module _ (s t : List ℕ) where
   different : openCall s t .number ≡ 0 → Different (loopsOf (openCall s t .summary))
   different e = third .frames-different s (openCall s t .summary) (third .opened-sound s t e)
 
-  whole : WholeNeeded s (openCall s t .number) × (openCall s t .number ≡ 0 → WholeTyped s (openCall s t .summary))
+  whole : WholeNeeded s (roomIn (length t)) (openCall s t .number) × (openCall s t .number ≡ 0 → WholeTyped s (openCall s t .summary))
   whole = (whole-numbers .open-whole s t, whole-numbers .open-typed s t)
 
   sentences : Sentences (openCall s t .number) (openCall s t .summary)

@@ -297,7 +297,7 @@ pub fn open(file: &[u8], table: &mut [u8]) -> Opened
     ensures theirs { λ r. ⌜ (r .number ≡ 0 → Joined (now (file .entry)) (r .summary)) ⌝ }
     ensures sound { λ r. ⌜ (r .number ≡ 0 → Sound (now (file .entry)) (r .summary)) ⌝ }
     ensures different { λ r. ⌜ (r .number ≡ 0 → Different (loopsOf (r .summary))) ⌝ }
-    ensures whole { λ r. ⌜ WholeNeeded (now (file .entry)) (r .number) ⌝ }
+    ensures whole { λ r. ⌜ WholeNeeded (now (file .entry)) (roomIn (length (now (table .entry)))) (r .number) ⌝ }
     ensures typed { λ r. ⌜ (r .number ≡ 0 → WholeTyped (now (file .entry)) (r .summary)) ⌝ }
 {
     let opened = read_file(file, table);
