@@ -31,8 +31,8 @@ enum {
     ND2_PACKED = 8,       /* a tree has a packed record */
     ND2_DEEP = 9,         /* a tree is over 64 levels deep */
     ND2_LEVEL = 10,       /* a level states too many items, or is shorter than its head */
-    ND2_MISSING = 11,     /* a chunk or a value that is needed is absent; a number with a fraction is none */
-    ND2_COMPRESSION = 12, /* the planes are compressed, or do not say that they are not */
+    ND2_MISSING = 11,     /* a chunk or a value that is needed is absent, or a number with a fraction */
+    ND2_COMPRESSION = 12, /* the planes are compressed, or it is not stated that they are not */
     ND2_BITS = 13,        /* samples are not of 8, 16 or 32 bits */
     ND2_FRAME_SHAPE = 14, /* the sizes of a frame do not fit together */
     ND2_LOOP_KIND = 15,   /* a loop is of a kind that is not read */

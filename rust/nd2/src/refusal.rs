@@ -43,7 +43,7 @@ refusals! {
     9 DEEP "deep" "a tree is over 64 levels deep"
     10 LEVEL "level" "a level states too many items, or is shorter than its head"
     11 MISSING "missing" "a chunk or a value that is needed is absent"
-    12 COMPRESSION "compression" "the planes are compressed, or do not say that they are not"
+    12 COMPRESSION "compression" "the planes are compressed, or it is not stated that they are not"
     13 BITS "bits" "samples are not of 8, 16 or 32 bits"
     14 FRAME_SHAPE "frame shape" "the sizes of a frame do not fit together"
     15 LOOP_KIND "loop kind" "a loop is of a kind that is not read"
