@@ -69,7 +69,7 @@ fn above_zero(size: Real) -> Real
 }
 
 // The pixel size that a tree states.
-fn parse_calibration_um(file: &[u8], table: &[u8], used: usize) -> Real
+pub fn parse_calibration_um(file: &[u8], table: &[u8], used: usize) -> Real
     requires { ⌜ Holds (now file) (now table) used ⌝ }
     ensures { λ r. ⌜ real r ≡ pixelSize (now (file .entry)) (entriesIn (now (table .entry)) used) ⌝ }
 {

@@ -6,6 +6,7 @@ use mathlib.Core.Option.{Option, none, some}
 use mathlib.Core.List.{List}
 use native.Mathlib.Omega.{arith}
 use Rattle.format.specs.Calls.Plane.{Outcome}
+use Rattle.format.specs.Calls.Picometres.{Sized}
 use Rattle.format.specs.Refusals as why
 use Rattle.format.specs.declared.Summary.{Summary}
 use Rattle.format.specs.Sentences.{None, AcceptedUnless}
@@ -15,13 +16,12 @@ use Rattle.capi.specs.OnBytes.{onSummary}
 use Rattle.capi.specs.Said.{Said, WhereSaid, Unsaid, AcceptedOn}
 
 -- the bytes say the summary
-pub on-some : (bad : List ℕ) (call : Summary → Outcome) (r : Laid) {x : Option Summary} → laidOf r ≡ x → r .ok ≡ true → onSummary bad call x ≡ call (r .summary)
+pub on-some : {A : Type 0} (bad : A) (call : Summary → A) (r : Laid) {x : Option Summary} → laidOf r ≡ x → r .ok ≡ true → onSummary bad call x ≡ call (r .summary)
 unfolding onSummary laidOf
 on-some bad call r e k = rw (← e, k)
 
 -- they say none
-pub on-none : (bad : List ℕ) (call : Summary → Outcome) (r : Laid) {x : Option Summary}
-    → laidOf r ≡ x → r .ok ≡ false → onSummary bad call x ≡ record { number = why.summary; buffer = bad }
+pub on-none : {A : Type 0} (bad : A) (call : Summary → A) (r : Laid) {x : Option Summary} → laidOf r ≡ x → r .ok ≡ false → onSummary bad call x ≡ bad
 unfolding onSummary laidOf
 on-none bad call r e k = rw (← e, k)
 
@@ -66,3 +66,8 @@ module _ (b : List ℕ) (r : Laid) (e : laidOf r ≡ summaryFrom b) where
 -- number and buffer of an outcome that is another by an equation
 pub both : {o p : Outcome} {n : ℕ} {b : List ℕ} → p ≡ o → n ≡ o .number → b ≡ o .buffer → (n ≡ p .number) × (b ≡ p .buffer)
 both e f g = rw e (f, g)
+
+-- number, size and table of a picometres call
+pub all-three : {o p : Sized} {n m : ℕ} {b : List ℕ} → p ≡ o → n ≡ o .number → m ≡ o .picometres → b ≡ o .table
+    → (n ≡ p .number) × ((m ≡ p .picometres) × (b ≡ p .table))
+all-three e f g h = rw e (f, (g, h))

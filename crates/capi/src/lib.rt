@@ -11,6 +11,7 @@ use layout::put_channel;
 use layout::put_summary;
 use layout::summary_from;
 use open::open;
+use picometres::picometres;
 use plane::plane;
 use register::register;
 use sheet::sheet;
@@ -34,13 +35,14 @@ ghost use Rattle.format.specs.Refused.Plane.{PlaneRefusal, planeOrder};
 ghost use Rattle.format.specs.Refused.Sheet.{SheetRefusal, sheetOrder, SheetReadRefusal, sheetReadOrder};
 ghost use Rattle.format.specs.Refused.Tree.{TreeRefusal, treeOrder};
 ghost use Rattle.format.specs.Refused.Channels.{ChannelsRefusal, channelsOrder};
+ghost use Rattle.format.specs.Refused.Picometres.{PicometresRefusal, picometresOrder, SizeIs};
 ghost use Rattle.format.specs.Refused.Register.{RegisterRefusal, registerOrder, Registered};
 ghost use Rattle.format.specs.Sentences.{Refuses, AcceptedUnless, OpensExactly, Different, PlaneCopied, TreeEntered, WholeNeeded, WholeTyped};
-ghost use Rattle.format.specs.Sentences.{SheetWritten, PlaneOn, SheetTaken, TurnedAway, ZeroSizes};
+ghost use Rattle.format.specs.Sentences.{SheetWritten, PlaneOn, SheetTaken, TurnedAway, ZeroSizes, AtSome};
 ghost use Rattle.channels.specs.Ahead.{ahead, Stands};
 ghost use Rattle.layout.specs.Layout.{summaryBytes, summaryFrom, channelRowBytes};
 ghost use Rattle.capi.specs.RowBytes.{RowRecorded};
-ghost use Rattle.capi.specs.OnBytes.{openOn, planeOn, sheetOn, treeOn, channelRow, channelsOn, registerOn};
+ghost use Rattle.capi.specs.OnBytes.{openOn, planeOn, sheetOn, treeOn, channelRow, channelsOn, registerOn, picometresOn};
 ghost use Rattle.capi.specs.Said.{Said, WhereSaid, Unsaid, AcceptedOn};
 
 // Opens a file, and stores its summary: 0, or the number of the first refusal and a summary of zeros. The table is all zero afterwards.
@@ -259,5 +261,37 @@ pub extern "C" fn nd2_register(file: &[u8], summary: &[u8], buffer: &mut [u8]) -
         let u = laid.summary;
         return register(file, u, buffer);
     }
+    refusal::SUMMARY
+}
+
+// The pixel size of a file in whole picometres; 0, or the number of the first refusal and 0 picometres. The table is all zero afterwards.
+#[no_mangle]
+pub extern "C" fn nd2_picometres(
+    file: &[u8],
+    summary: &[u8],
+    table: &mut [u8],
+    size: &mut u64,
+) -> u32
+    ensures number { λ r. ⌜ r ≡ picometresOn (now (file .entry)) (now (summary .entry)) (now (table .entry)) .number ⌝ }
+    ensures size { λ _. ⌜ now (size .exit) ≡ picometresOn (now (file .entry)) (now (summary .entry)) (now (table .entry)) .picometres ⌝ }
+    ensures table { λ _. ⌜ now (table .exit) ≡ picometresOn (now (file .entry)) (now (summary .entry)) (now (table .entry)) .table ⌝ }
+    ensures cleared { λ _. ⌜ now (table .exit) ≡ zeros (length (now (table .entry))) ⌝ }
+    ensures first { λ r. ⌜ WhereSaid (now (summary .entry))
+        (λ u. FirstAt (PicometresRefusal (now (file .entry)) u (roomIn (length (now (table .entry))))) picometresOrder r) ⌝ }
+    ensures unsaid { λ r. ⌜ Unsaid (now (summary .entry)) r ⌝ }
+    ensures accepted { λ r. ⌜ AcceptedOn (now (summary .entry))
+        (λ u. AtSome (PicometresRefusal (now (file .entry)) u (roomIn (length (now (table .entry)))))) r ⌝ }
+    ensures zero { λ r. ⌜ (Refuses r → now (size .exit) ≡ 0) ⌝ }
+    ensures rounded { λ r. ⌜ (r ≡ 0 → Said (now (summary .entry)) (λ u. SizeIs (now (file .entry)) u (now (size .exit)))) ⌝ }
+{
+    let laid = summary_from(summary);
+    if laid.ok {
+        let u = laid.summary;
+        let said = picometres(file, u, table);
+        *size = said.picometres;
+        return said.number;
+    }
+    clear(table);
+    *size = 0;
     refusal::SUMMARY
 }

@@ -12,9 +12,8 @@ use lib.Seq.{length-take-le}
 use borrow.Author.Tests.{eqb-false, ltb-true, ltb-false, leb-true, leb-false}
 use Rattle.format.proofs.Answers.{none≢some, refused≢given, given-inj, refuseIf-given, andThen-given}
 use Rattle.format.proofs.Orders.{decides-given, nonzero}
-use Rattle.format.proofs.Maps.{read-map}
-use Rattle.format.proofs.Trees.{passed-read, tree-unique}
-use Rattle.format.proofs.Entries.{data-read, read-data}
+use Rattle.format.proofs.Trees.{passed-read}
+use Rattle.format.proofs.Entries.{data-read, read-data, tree-once}
 use Rattle.format.proofs.Named.{named-read, read-named, tree-given, given-tree, tree-means}
 use Rattle.format.proofs.TreeCalls.{read-short}
 use Rattle.format.proofs.Means.{Means}
@@ -131,11 +130,7 @@ module _ (s : List ℕ) (u : Summary) where
   -- a file has one tree of planes
   same-planes : {es fs : List Entry} {is js : List ℕ} → PlanesIn s u es is → PlanesIn s u fs js → (fs ≡ es) × (js ≡ is)
   same-planes {es} {fs} x y =
-      let ms = x .chunk .entry .entries in
-      let map-read = read-map (mapOf s u) ms (x .chunk .entry .map-of) in
-      let e : y .place ≡ x .place =
-      given-inj (sym (read-data s u ms map-read planesName (y .place) (y .chunk)) ∙ read-data s u ms map-read planesName (x .place) (x .chunk)) in
-      let q : fs ≡ es = tree-unique s (x .place) fs es (rw e at (y .tree)) (x .tree) in
+      let q : fs ≡ es = tree-once s u planesName (y .chunk) (y .tree) (x .chunk) (x .tree) in
       (q, planes-once s es (means x) (rw q at (y .planes)) (x .planes))
 
   -- ---- the row

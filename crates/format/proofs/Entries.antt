@@ -1,21 +1,24 @@
--- What a summary's map has under a name, and under a frame's name, is what is looked up there. Assumes nothing.
+-- What a summary's map has under a name, and under a frame's name, is what is looked up there, and has one tree. Assumes nothing.
 use Prim.Native.Nat.{ℕ, _^_, _<_}
 use mathlib.Core.Path.{_≡_, sym, _∙_}
 use mathlib.Core.Option.{some}
 use mathlib.Core.List.{List, []}
-use Rattle.format.proofs.Answers.{andThen-given, orRefuse-given, go-on, found}
+use Rattle.format.proofs.Answers.{andThen-given, orRefuse-given, given-inj, go-on, found}
 use Rattle.format.proofs.Chunks.{chunk-read, read-chunk}
-use Rattle.format.proofs.Maps.{map-read, map-unique, listed-read, read-listed}
+use Rattle.format.proofs.Maps.{map-read, read-map, map-unique, listed-read, read-listed}
+use Rattle.format.proofs.Trees.{tree-unique}
 use Rattle.format.proofs.Names.{frame-name, frame-name-unique}
 use Rattle.format.specs.Answer.{given, orRefuse}
 use Rattle.format.specs.Chunks.{chunkData}
 use Rattle.format.specs.Map.{MapEntry, mapEntries, offsetOf, namedChunk}
 use Rattle.format.specs.Frames.{frameName}
 use Rattle.format.specs.Summary.{mapOf}
+use Rattle.format.specs.Grammar.Trees.{Tree}
 use Rattle.format.specs.Refused.Plane.{FrameEntry, FrameData}
 use Rattle.format.specs.Refused.Tree.{NameEntry, NameData}
 use Rattle.format.specs.Refusals as why
 use Rattle.format.specs.declared.Range.{Range}
+use Rattle.format.specs.declared.Entry.{Entry}
 use Rattle.format.specs.declared.Summary.{Summary}
 
 -- es are the entries of the map of the summary u
@@ -63,3 +66,15 @@ module _ (s : List ℕ) (u : Summary) (es : List MapEntry) (map : mapEntries (ma
 
     pub frame-chunk : (o : ℕ) (r : Range) → offsetOf (mapOf s u) (frameName n) es ≡ some o → FrameData s u n r → chunkData [] s o ≡ given r
     frame-chunk o r e x = entry-chunk (frameName n) o r e (record { offset = x .offset; entry = as-name (x .offset) (x .entry); chunk = x .chunk })
+
+-- ---- one chunk, one tree
+
+module _ (s : List ℕ) (u : Summary) (name : List ℕ) where
+  pub data-once : (r q : Range) → NameData s u name r → NameData s u name q → r ≡ q
+  data-once r q x y =
+      let es = x .entry .entries in
+      let map = read-map (mapOf s u) es (x .entry .map-of) in
+      given-inj (sym (read-data s u es map name r x) ∙ read-data s u es map name q y)
+
+  pub tree-once : {r q : Range} {es fs : List Entry} → NameData s u name r → Tree s r es → NameData s u name q → Tree s q fs → es ≡ fs
+  tree-once {r} {q} {es} {fs} x t y z = tree-unique s r es fs t (rw (data-once q r y x) at z)

@@ -1,11 +1,16 @@
 -- A chain of stages gives the first refusal among them, and 0 where none refuses. Assumes nothing.
-use Prim.Native.Nat.{ℕ}
+use Prim.Native.Nat.{ℕ, _<_}
 use mathlib.Core.Path.{_≡_, refl}
+use mathlib.Core.Logic.{_↔_}
 use mathlib.Core.Bool.{Bool, true, false}
 use mathlib.Core.Option.{Option, none, some}
 use mathlib.Core.List.{List, [], _∷_, _++_, map}
+use native.Mathlib.Omega.{arith}
 use Rattle.format.proofs.Answers.{Numbered, refusal, answer, refused≢given}
+use Rattle.format.proofs.Orders as order
+use Rattle.format.proofs.Orders.{Decides}
 use Rattle.format.specs.Answer.{Answer, refused, given, refuseIf, andThen, orRefuse, numberOf}
+use Rattle.format.specs.Grammar.Lists.{In, here, behind}
 use Rattle.format.specs.Refused.Order.{First, FirstAt, accepted, passed}
 use Rattle.format.specs.Refused.Order.{refused as first}
 
@@ -76,6 +81,21 @@ module _ {S : Type 0} {P : S → ℕ → Type 0} where
   first-from (first {a = a} h) f = (a, h)
   first-from (passed g r) f = first-from r f
 
+  -- where every stage is one of the order and no number is 0, the number is 0 exactly when no stage refuses
+  pub accepted-at : {stages : List S} {n : ℕ} → ((a : S) (k : ℕ) → P a k → In a stages × (0 < k)) → FirstAt P stages n
+      → (n ≡ 0) ↔ ((k : ℕ) → (a : S) × P a k → ⊥)
+  accepted-at f r = (λ e k p. no-stage r e (p .0) k (f (p .0) k (p .1) .0) (p .1), λ g. none-refuses r λ a k p. g k (a, p))
+    where
+      no-stage : {stages : List S} {n : ℕ} → FirstAt P stages n → n ≡ 0 → (a : S) (k : ℕ) → In a stages → P a k → ⊥
+      no-stage (first {a = b} {n = m} h) e a k i p = let l = f b m h .1 in omega arith
+      no-stage (passed g r) e a k here p = g k p
+      no-stage (passed g r) e a k (behind i) p = no-stage r e a k i p
+
+      none-refuses : {stages : List S} {n : ℕ} → FirstAt P stages n → ((a : S) (k : ℕ) → P a k → ⊥) → n ≡ 0
+      none-refuses accepted g = refl
+      none-refuses (first {a = a} {n = n} h) g = absurd (g a n h)
+      none-refuses (passed h r) g = none-refuses r g
+
   -- where each stage has one number, so has the call
   pub first-once : ((a : S) (n m : ℕ) → P a n → P a m → n ≡ m) → {stages : List S} {n m : ℕ} → FirstAt P stages n → FirstAt P stages m → n ≡ m
   first-once f accepted accepted = refl
@@ -99,6 +119,13 @@ module _ {T : Type 0} {Q : T → ℕ → Type 0} where
   decides-map f p q (stops {a = a} {n = n} h) = stops (p a n h)
   decides-map f p q gives = gives
   decides-map f p q (goes {a = a} h d) = goes (λ n k. h n (q a n k)) (decides-map f p q d)
+
+  -- of a call that has each number once
+  pub decides-staged : {P : ℕ → Type 0} (f : ℕ → T) → ((n : ℕ) → P n → Q (f n) n) → ((n m : ℕ) → Q (f n) m → P n)
+      → {A : Type 0} {ns : List ℕ} {x : Answer A} → Decides P ns x → DecidesAt Q (map f ns) x
+  decides-staged f p q (order.stops {n = n} h) = stops (p n h)
+  decides-staged f p q order.gives = gives
+  decides-staged f p q (order.goes {n = n} h d) = goes (λ m k. h (q n m k)) (decides-staged f p q d)
 
   pub first-map : {P : ℕ → Type 0} (f : ℕ → T) → ((n : ℕ) → P n → Q (f n) n) → ((n m : ℕ) → Q (f n) m → P n)
       → {ns : List ℕ} {n : ℕ} → First P ns n → FirstAt Q (map f ns) n

@@ -9,7 +9,7 @@ use lib.Dec.{leb}
 use lib.ListN.{length, take}
 use borrow.Author.Tests.{leb-true, leb-false, lt-leb}
 use Rattle.format.proofs.Tests.{and-left, and-right}
-use Rattle.format.proofs.Answers.{refuseIf-given, andThen-given, orRefuse-given, given-inj, found, go-on, orRefuse-numbered}
+use Rattle.format.proofs.Answers.{refuseIf-given, andThen-given, orRefuse-given, found, go-on, orRefuse-numbered}
 use Rattle.format.proofs.Reading.{whole-read}
 use Rattle.format.proofs.Orders.{Decides, stops, goes, decides-if, decides-one, decides-then, decides-none, decides-only, decides-first, decides-given, all-by, all-in, nonzero, accepted-iff}
 use Rattle.format.proofs.Chunks.{chunk-read, chunk-numbered}
@@ -17,7 +17,7 @@ use Rattle.format.proofs.Maps.{map-read, read-map, map-numbered}
 use Rattle.format.proofs.Summaries.{sound-read, unsound}
 use Rattle.format.proofs.Trees.{treeFaults, tree-read, fault-read, read-fault, fault-number, passed-read, read-passed, at≢fault, fault-inj}
 use Rattle.format.proofs.Tables.{tabled}
-use Rattle.format.proofs.Entries.{entry-read, read-entry, entry-chunk, data-read, read-data}
+use Rattle.format.proofs.Entries.{entry-read, read-entry, entry-chunk, data-read, read-data, data-once}
 use Rattle.format.specs.Answer.{Answer, refused, given, orRefuse, numberOf}
 use Rattle.format.specs.Bytes.{zeros}
 use Rattle.format.specs.Refusals as why
@@ -82,7 +82,7 @@ module _ (s : List ℕ) (u : Summary) (name : List ℕ) (room : ℕ) where
   says-fault n i (chunk f) = let (a, b) = fault-range n i in absurd (omega arith)
   says-fault n i (table t) = let (a, b) = fault-range n i in absurd (omega arith)
 
-  in-order : (k : ℕ) → R k → In k treeOrder
+  pub in-order : (k : ℕ) → R k → In k treeOrder
   in-order k (summary f) = here
   in-order k (map f) = behind here
   in-order k (missing f) = behind (behind here)
@@ -93,10 +93,6 @@ module _ (s : List ℕ) (u : Summary) (name : List ℕ) (room : ℕ) where
   -- ---- the tree under the name; es are the map's entries
 
   module _ (es : List MapEntry) (e : mapEntries (mapOf s u) ≡ given es) where
-    -- a name has one chunk
-    data-unique : (r q : Range) → NameData s u name r → NameData s u name q → r ≡ q
-    data-unique r q x y = given-inj (sym (read-data s u es e name r x) ∙ read-data s u es e name q y)
-
     -- 18 where the table is short
     pub read-short : TableShort s u name room → namedTree s (mapOf s u) es room name ≡ refused why.table
     unfolding namedTree within wholeTree
@@ -112,12 +108,12 @@ module _ (s : List ℕ) (u : Summary) (name : List ℕ) (room : ℕ) where
       faults-decide (at p) q =
           decides-none treeFaults (treeIn s r .entries) λ n i w.
           let (r′, y, z) = says-fault n i w in
-          at≢fault (sym q ∙ read-fault s r n (rw (data-unique r′ r y x) at z))
+          at≢fault (sym q ∙ read-fault s r n (rw (data-once s u name r′ r y x) at z))
       faults-decide (faultAt n) q =
           let f = fault-read s r n q in
           decides-only treeFaults n (fault-number s r n f) (fault x f) λ m i w.
           let (r′, y, z) = says-fault m i w in
-          fault-inj (sym (read-fault s r m (rw (data-unique r′ r y x) at z)) ∙ q)
+          fault-inj (sym (read-fault s r m (rw (data-once s u name r′ r y x) at z)) ∙ q)
 
       table-decides : Decides R (why.table ∷ treeFaults) (treeEntries (within room (treeIn s r)))
       unfolding within wholeTree
@@ -130,7 +126,7 @@ module _ (s : List ℕ) (u : Summary) (name : List ℕ) (room : ℕ) where
               fits : TableShort s u name room → ⊥
               fits y =
                   let h = y .too-many in
-                  let k = read-passed s r (y .count) (rw (data-unique (y .place) r (y .chunk) x) at (y .passed)) in
+                  let k = read-passed s r (y .count) (rw (data-once s u name (y .place) r (y .chunk) x) at (y .passed)) in
                   let l = leb-true (length (treeIn s r .entries)) room q in
                   omega arith
           go false q =
@@ -151,13 +147,26 @@ module _ (s : List ℕ) (u : Summary) (name : List ℕ) (room : ℕ) where
 
   -- ---- the number
 
-  tree-decides : Decides R treeOrder (treeNamed s u name room)
+  pub tree-decides : Decides R treeOrder (treeNamed s u name room)
   unfolding treeNamed
   tree-decides =
       decides-if (badSummary s u) why.summary _ (λ q. summary (unsound s u q)) (λ q w. says-summary w (sound-read s u q)) λ q.
       decides-then {ns = why.map ∷ []} (mapEntries (mapOf s u)) _
       (decides-one why.map _ (map-numbered (mapOf s u) (λ m. m ≡ why.map) refl) (λ f. map λ es x. f es (read-map _ es x))
       (λ es q w. says-map w es (map-read _ es q))) named-decides
+
+  -- ---- a tree that is read whole
+
+  pub tree-whole : (es : List Entry) → treeNamed s u name room ≡ given es → (r : Range) × NameData s u name r × Tree s r es × (length es ≤ room)
+  unfolding treeNamed namedTree
+  tree-whole es e =
+      let (f₁, e₁) = refuseIf-given (badSummary s u) why.summary _ e in
+      let (ms, f₂, e₂) = andThen-given (mapEntries (mapOf s u)) _ e₁ in
+      let (r, f₃, e₃) = andThen-given (namedChunk s (mapOf s u) ms name) _ e₂ in
+      let (h, p, q) = whole-read room (treeIn s r) es e₃ in
+      let x = tree-read s r p (ap (λ (z : Read). z .stop) q) in
+      let e₄ : treeIn s r .entries ≡ es = ap (λ (z : Read). z .entries) q in
+      (r, data-read s u ms f₂ name r f₃, subst (Tree s r) e₄ x, rw e₄ at h)
 
 by-number : (n : ℕ) (x : Answer (List Entry)) → treeBy n x .number ≡ numberOf x
 unfolding treeBy numberOf
@@ -176,18 +185,6 @@ module _ (s : List ℕ) (u : Summary) (name bytes : List ℕ) where
 
   -- ---- the table
 
-  whole : (es : List Entry) → treeNamed s u name (roomIn (length bytes)) ≡ given es
-      → (r : Range) × NameData s u name r × Tree s r es × (length es ≤ roomIn (length bytes))
-  unfolding treeNamed namedTree
-  whole es e =
-      let (f₁, e₁) = refuseIf-given (badSummary s u) why.summary _ e in
-      let (ms, f₂, e₂) = andThen-given (mapEntries (mapOf s u)) _ e₁ in
-      let (r, f₃, e₃) = andThen-given (namedChunk s (mapOf s u) ms name) _ e₂ in
-      let (h, p, q) = whole-read (roomIn (length bytes)) (treeIn s r) es e₃ in
-      let x = tree-read s r p (ap (λ (z : Read). z .stop) q) in
-      let e₄ : treeIn s r .entries ≡ es = ap (λ (z : Read). z .entries) q in
-      (r, data-read s u ms f₂ name r f₃, subst (Tree s r) e₄ x, rw e₄ at h)
-
   -- Where the tree call gives 0, the table has the entries of the tree under the name, and zeros behind them.
   pub tree-table : treeCall s u name bytes .number ≡ 0
       → (r : Range) × (es : List Entry) × NameData s u name r × Tree s r es × Tabled es (length bytes) (treeCall s u name bytes .buffer)
@@ -195,7 +192,7 @@ module _ (s : List ℕ) (u : Summary) (name bytes : List ℕ) where
   tree-table e =
       let x = treeNamed s u name (roomIn (length bytes)) in
       let (es, q) = decides-given (nonzero treeOrder refl) (tree-decides s u name (roomIn (length bytes))) (sym (by-number (length bytes) x) ∙ e) in
-      let (r, y, z, h) = whole es q in
+      let (r, y, z, h) = tree-whole s u name (roomIn (length bytes)) es q in
       let t = tabled es (length bytes) (omega arith) in
       (r, es, y, z, subst (λ (a : Answer (List Entry)). Tabled es (length bytes) (treeBy (length bytes) a .buffer)) (sym q) t)
 

@@ -115,6 +115,13 @@ u64-in (pos k) = record { holds = there; only = λ n h. back n (h .0) (h .1) }
     back n e h = let d : k ≡ n = cc in rw (d, lt-ltb n (2 ^ 64) h) refl
 u64-in (negsuc k) = record { holds = λ n q. absurd (none≢some q); only = λ n h. absurd (below-not-above (h .0)) }
 
+pub in-u64 : (n : ℕ) → n < 2 ^ 64 → inU64 (pos n) ≡ some n
+in-u64 n h = u64-in (pos n) .only n (refl, h)
+
+pub no-u64 : (n : ℕ) → 2 ^ 64 ≤ n → inU64 (pos n) ≡ none
+unfolding inU64
+no-u64 n h = rw (le-ltb n (2 ^ 64) h) refl
+
 pub unsigned-of : (v : Value) → States (unsigned v) (ReadsUnsigned v)
 unfolding unsigned
 unsigned-of v = record { holds = there; only = back }

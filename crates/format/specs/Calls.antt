@@ -4,5 +4,6 @@ pub mod Plane
 pub mod Sheet
 pub mod Tree
 pub mod Channels
+pub mod Picometres
 pub mod Register
 pub mod Border

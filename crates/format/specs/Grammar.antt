@@ -19,5 +19,6 @@ pub mod Calibration
 pub mod Channels
 pub mod Frames
 pub mod Sheets
+pub mod Picometres
 pub mod File
 pub mod Table

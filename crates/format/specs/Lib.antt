@@ -25,6 +25,8 @@ pub mod Channels
 pub mod Sheets
 -- change request 3: two names compared, with the count of units
 pub mod Comparison
+-- change request 5: a size in whole picometres
+pub mod Picometres
 -- "The calls": the summary that they share, and each call's answer from its arguments alone
 pub mod Summary
 pub mod Calls

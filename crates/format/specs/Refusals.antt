@@ -108,3 +108,7 @@ sheetLong = 26
 -- sheet layout: lent bytes that are no plane's sheet (change request 2)
 abbrev pub sheetLayout : ℕ
 sheetLayout = 27
+
+-- size range: a pixel size of more than 2^64 − 1 picometres, or infinite (change request 5)
+abbrev pub sizeRange : ℕ
+sizeRange = 28

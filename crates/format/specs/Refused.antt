@@ -7,6 +7,7 @@ pub mod Plane
 pub mod Sheet
 pub mod Tree
 pub mod Channels
+pub mod Picometres
 pub mod Register
 pub mod Loops
 pub mod Open

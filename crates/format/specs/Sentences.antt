@@ -43,6 +43,10 @@ None Refusal = (n : ℕ) → Refusal n → ⊥
 abbrev pub AcceptedUnless : (ℕ → Type 0) → ℕ → Type 0
 AcceptedUnless Refusal n = (n ≡ 0) ↔ None Refusal
 
+-- at some of a call's stages the number is refused
+abbrev pub AtSome : {A : Type 0} → (A → ℕ → Type 0) → ℕ → Type 0
+AtSome {A = A} P n = (a : A) × P a n
+
 -- ---- opening
 
 -- an opening whose number is n, with a table of `room` entries, accepts exactly when the grammar joins the file to a summary and the table has entries enough

@@ -53,3 +53,5 @@ pub const BUFFER: u32 = 25;
 pub const SHEET_LONG: u32 = 26;
 
 pub const SHEET_LAYOUT: u32 = 27;
+
+pub const SIZE_RANGE: u32 = 28;

@@ -196,7 +196,7 @@ fn negated(n: u64) -> Integer
 // ---- roundings
 
 // q / 2^n to the nearest whole number, a tie to the even one.
-fn rounded(q: u64, n: u64) -> u64
+pub fn rounded(q: u64, n: u64) -> u64
     requires { ⌜ 1 ≤ n ⌝ ∗ ⌜ n < 63 ⌝ }
     ensures { λ r. ⌜ r ≡ closest q (2 ^ n) ⌝ }
 {

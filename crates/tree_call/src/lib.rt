@@ -21,7 +21,7 @@ ghost use Rattle.named_tree.specs.Named.{Reads};
 const ACCEPTED: u32 = 0;
 
 // The tree under a name, and every refusal in order, with a table of zeros.
-fn tree_named(file: &[u8], u: Summary, name: &[u8], table: &mut [u8]) -> Parsed
+pub fn tree_named(file: &[u8], u: Summary, name: &[u8], table: &mut [u8]) -> Parsed
     ensures { λ r. ⌜ Reads (now (file .entry)) (now (table .exit)) (length (now (table .entry)))
         (treeNamed (now (file .entry)) u (now (name .entry)) (roomIn (length (now (table .entry))))) r ⌝ }
 {

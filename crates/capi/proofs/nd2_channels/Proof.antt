@@ -35,7 +35,7 @@ returns c =
     let r = l .result in
     let e = l .ensures in
     let t = i .if1 .taken in
-    let (n, b) = both (on-some (zeros k) (λ u. channelRow (a .file .now) u (a .table .now) k) r e t) number row in
+    let (n, b) = both (on-some _ (λ u. channelRow (a .file .now) u (a .table .now) k) r e t) number row in
     let first = row-first (a .file .now) (a .table .now) (r .summary) k in
     let accepted = row-accepted (a .file .now) (a .table .now) (r .summary) k in
     let recorded = row-recorded (a .file .now) (a .table .now) (r .summary) k number row in (
@@ -77,7 +77,7 @@ returns-2 c =
     let r = l .result in
     let e = l .ensures in
     let f = i .if1 .left in
-    let (n, b) = both (on-none (zeros k) (λ u. channelRow (a .file .now) u (a .table .now) k) r e f) refl (d .clear .ensures) in
+    let (n, b) = both (on-none _ (λ u. channelRow (a .file .now) u (a .table .now) k) r e f) refl (d .clear .ensures) in
     (n, (b, (t .clear2 .ensures, ((λ _. d .clear .ensures), (where-unsaid s r e f _, ((λ _. refl), (refused-unsaid s r e f _, λ z. absurd (omega arith))))))))
 
 pub nd2-channels-spec : {M : Type 1} → statement M

@@ -8,9 +8,9 @@ pub data All (P : ℕ → Type 0) : List ℕ → Type 0 where
   more : {i : ℕ} {is : List ℕ} → P i → All P is → All P (i ∷ is)
 
 -- j is one of them
-pub data In (j : ℕ) : List ℕ → Type 0 where
-  here : {is : List ℕ} → In j (j ∷ is)
-  behind : {i : ℕ} {is : List ℕ} → In j is → In j (i ∷ is)
+pub data In {A : Type 0} (j : A) : List A → Type 0 where
+  here : {is : List A} → In j (j ∷ is)
+  behind : {i : A} {is : List A} → In j is → In j (i ∷ is)
 
 pub data Rising : List ℕ → Type 0 where
   none : Rising []
