@@ -1,14 +1,14 @@
 -- A size in picometres, by its value and by the rules: what a tree states is taken as it is stored. Assumes nothing.
 use Prim.Native.Nat.{ℕ, zero, suc, _+_, _*_, _^_, _≤_, _<_}
 use mathlib.Core.Path.{_≡_, refl, sym, ap, _∙_, subst}
-use mathlib.Core.Logic.{_⊎_, inl, inr}
+use mathlib.Core.Logic.{_⊎_, inl, inr, _↔_}
 use mathlib.Core.Bool.{Bool, true, false, cond, true≢false, false≢true}
 use mathlib.Core.Option.{Option, none, some}
 use native.Mathlib.Nat.{le-trans, le-of-eq, le-antisymm, zero-mul, mul-one, mul-right-comm, mul-le-mul-right, mul-pos, eq-of-mul-eq-mul-right}
 use native.Mathlib.Omega.{arith}
 use borrow.Author.Tests.{ltb-true, leb-true, leb-false, lt-ltb}
 use lib.Dec.{T, ltb, leb, ltb→lt, lit<, lit≤}
-use lib.IntN.{pos, negsuc}
+use lib.IntN.{ℤ, pos, negsuc}
 use lib.Ieee.{Float, nan, inf, fin, Format, binary64, prec, emax, low, up, down, size, odd, units, round, ofInt, lt, le}
 use lib.Ieee.Fits.{up-pos, down-pos, round-is}
 use lib.Ieee.Exact.{HasValue}
@@ -18,15 +18,15 @@ use lib.Ieee.Positive as ieee
 use lib.Ieee.Nearest.{closest, closest-same, closest-mono}
 use Rattle.format.proofs.Answers.{none≢some}
 use Rattle.format.proofs.Rules.{cond-some, only-one}
-use Rattle.format.proofs.Wholes.{no-u64, number-in}
-use Rattle.format.proofs.Closest.{closest-rounds, rounds-only, rounds-mono}
+use Rattle.format.proofs.Wholes.{u64-in, in-u64, no-u64, number-in}
+use Rattle.format.proofs.Closest.{closest-rounds, rounds-only, rounds-mono, rounds-whole}
 use Rattle.format.specs.Values.{Value, flag, whole, double, text, bytes, level, list}
 use Rattle.format.specs.Numbers.{inU64, float, positive, zeroFloat}
 use Rattle.format.specs.Calibration.{aboveZero}
 use Rattle.format.specs.Picometres.{picometres}
 use Rattle.format.specs.Grammar.Numbers.{Equals, plus, minus-zero, Number, unset, set, stored, of-double}
 use Rattle.format.specs.Grammar.Picometres as rules
-use Rattle.format.specs.Grammar.Picometres.{Positive, whole-number, Endless, plus-infinity, AboveZero, finite, infinite, InPicometres}
+use Rattle.format.specs.Grammar.Picometres.{Rounds, Positive, whole-number, Endless, plus-infinity, AboveZero, finite, infinite, InPicometres}
 
 -- ---- by its value
 
@@ -261,3 +261,30 @@ size-mono {v} {w} {a} {b} {c} {d} {n} {m} p q h x y =
 pub in-picometres-once : {v : Value} {n m : ℕ} → InPicometres v n → InPicometres v m → n ≡ m
 in-picometres-once x y =
     le-antisymm (size-mono (x .above-0) (x .above-0) (le-of-eq refl) x y) (size-mono (x .above-0) (x .above-0) (le-of-eq refl) y x)
+
+-- ---- a double m × 2^e
+
+pub double-size : (m : ℕ) (e : ℤ) (n : ℕ) → Rounds (m * up e * 1_000_000) (down e) n → picometres (fin false m e) ≡ inU64 (pos n)
+unfolding picometres
+double-size m e n r = ap (λ (z : ℕ). inU64 (pos z)) (rounds-only (m * up e * 1_000_000) (down e) (down-pos e) _ n (closest-rounds _ _ (down-pos e)) r)
+
+pub rounded : (m : ℕ) (e : ℤ) (n : ℕ) → picometres (fin false m e) ≡ some n → Rounds (m * up e * 1_000_000) (down e) n
+unfolding picometres
+rounded m e n q = rw (pos-inj (u64-in (pos (closest (m * up e * 1_000_000) (down e))) .holds n q .0)) at (closest-rounds (m * up e * 1_000_000) (down e) (down-pos e))
+
+-- ---- a value of any kind
+
+pub size-is : (v : Value) (n : ℕ) → (InPicometres v n × (n < 2 ^ 64)) ↔ ((x : Float) × (sizeOf v ≡ some x) × (picometres x ≡ some n))
+size-is v n = (
+  λ (r, h). let (x, e, q) = size-read v n r in (x, e, q ∙ in-u64 n h),
+  λ (x, e, q). go x q (read-size v x e),
+)
+  where
+    go : (x : Float) → picometres x ≡ some n → (Endless v × (picometres x ≡ none)) ⊎ ((n : ℕ) × InPicometres v n × (picometres x ≡ inU64 (pos n)))
+        → InPicometres v n × (n < 2 ^ 64)
+    go x q (inl (i, p)) = absurd (none≢some (sym p ∙ q))
+    go x q (inr (m, r, p)) = let (e, h) = u64-in (pos m) .holds n (sym p ∙ q) in (rw (pos-inj e) at r, h)
+
+-- a whole number of picometres
+pub exact-size : (v : Value) (size unit n : ℕ) → Positive v size unit → size * 1_000_000 ≡ n * unit → InPicometres v n
+exact-size v size unit n p e = record { size = size; unit = unit; above-0 = p; rounds = rw e (rounds-whole n unit (unit-some p)) }

@@ -1,7 +1,7 @@
 -- A picometres call's number is what its first stage that refuses gives, and its size is the rules'. Assumes nothing.
 use Prim.Native.Nat.{ℕ, _^_, _≤_, _<_}
 use mathlib.Core.Path.{_≡_, refl, sym, ap, _∙_, subst}
-use mathlib.Core.Logic.{_⊎_, inl, inr}
+use mathlib.Core.Logic.{inl, inr}
 use mathlib.Core.Bool.{Bool, true, false, cond}
 use mathlib.Core.Option.{Option, none, some, Option·some-inj}
 use mathlib.Core.List.{List, [], _∷_, _++_, map}
@@ -13,7 +13,7 @@ use native.Mathlib.Omega.{arith}
 use borrow.Author.Tests.{ltb-false}
 use Rattle.format.proofs.Answers.{none≢some, andThen-given, orRefuse-given, found, Numbered, refusal, answer, orRefuse-numbered}
 use Rattle.format.proofs.Rules.{States, only-one, bind-some, some-bind}
-use Rattle.format.proofs.Wholes.{u64-in, no-u64}
+use Rattle.format.proofs.Wholes.{no-u64}
 use Rattle.format.proofs.Means.{Means}
 use Rattle.format.proofs.Fields.{field-in, level-at}
 use Rattle.format.proofs.Named.{tree-means}
@@ -21,7 +21,7 @@ use Rattle.format.proofs.Entries.{tree-once}
 use Rattle.format.proofs.Orders.{all-in, nonzero}
 use Rattle.format.proofs.Stages.{DecidesAt, stage-one, decides-then, decides-first, decides-numbered, decides-staged, accepted-at, first-once}
 use Rattle.format.proofs.TreeCalls.{in-order, tree-decides, tree-whole}
-use Rattle.format.proofs.Picometres.{pos-inj, sizeOf, size-read, read-size, endless-read, above-read, read-above, in-picometres-once}
+use Rattle.format.proofs.Picometres.{sizeOf, size-read, read-size, size-is, endless-read, above-read, read-above, in-picometres-once}
 use Rattle.format.specs.Answer.{Answer, refused, given, orRefuse, numberOf}
 use Rattle.format.specs.Bytes.{ascii, zeros}
 use Rattle.format.specs.Refusals as why
@@ -33,7 +33,7 @@ use Rattle.format.specs.Picometres.{picometres}
 use Rattle.format.specs.Calls.Tree.{treeNamed}
 use Rattle.format.specs.Calls.Picometres.{picometresIn, picometresOf, orZero, picometresCall}
 use Rattle.format.specs.Grammar.Lists.{In, here, behind}
-use Rattle.format.specs.Grammar.Picometres.{Endless, InPicometres, SizeStated}
+use Rattle.format.specs.Grammar.Picometres.{SizeStated}
 use Rattle.format.specs.Refused.Order.{FirstAt}
 use Rattle.format.specs.Refused.Tree.{TreeRefusal, treeOrder}
 use Rattle.format.specs.Refused.Picometres as stages
@@ -216,12 +216,8 @@ module _ (s : List ℕ) (u : Summary) where
         let (r, c, t, h) = tree-whole s u calibrationName room es e₁ in
         let tree : CalibrationTree s u es = record { place = r; chunk = c; tree = t } in
         let (v, z, f) = size-found s es (means tree) x (orRefuse-given _ why.missing e₃) in
-        go v (record { entries = es; tree = tree; stated = z }) x (read-size v x f) (orRefuse-given _ why.sizeRange e₄)
-      where
-        go : (v : Value) → SizeAt s u v → (x : Float) → (Endless v × (picometres x ≡ none)) ⊎ ((n : ℕ) × InPicometres v n × (picometres x ≡ inU64 (pos n)))
-            → picometres x ≡ some n → SizeIs s u n
-        go v a x (inl (i, p)) q = absurd (none≢some (sym p ∙ q))
-        go v a x (inr (m, r, p)) q = record { value = v; there = a; in-picometres = rw (pos-inj (u64-in (pos m) .holds n (sym p ∙ q) .0)) at r }
+        let is = size-is v n .1 (x, f, orRefuse-given _ why.sizeRange e₄) in
+        record { value = v; there = record { entries = es; tree = tree; stated = z }; in-picometres = is .0 }
 
 -- ---- the call
 

@@ -1,19 +1,29 @@
 -- The change requests hold of the definitions. Assumes nothing.
-use Prim.Native.Nat.{_^_}
-use mathlib.Core.Path.{_≡_, refl}
+use Prim.Native.Nat.{_*_, _^_}
+use mathlib.Core.Path.{_≡_, refl, sym, _∙_}
 use mathlib.Core.Bool.{Bool, true, false}
 use mathlib.Core.Option.{some}
 use lib.IntN.{pos}
+use native.Mathlib.Nat.{mul-one}
+use lib.Ieee.Nearest.{closest}
 use borrow.Author.Tests.{lt-ltb}
-use Rattle.format.specs.Values.{flag, bind}
+use Rattle.format.specs.Values.{flag, whole, bind}
 use Rattle.format.specs.Numbers.{oneIf, unsigned, signed, float}
-use Rattle.format.specs.Requests.{Sheets, NameChecks, WholeNumbers}
+use Rattle.format.specs.Grammar.Numbers.{stored}
+use Rattle.format.specs.Grammar.Picometres.{whole-number}
+use Rattle.format.specs.Requests.{Sheets, NameChecks, WholeNumbers, Picometres}
 use Rattle.format.proofs.Sheets.{rule-is, sheet-only}
 use Rattle.format.proofs.SheetCalls.{write-number, write-accepted, write-refused, written, plane-written}
 use Rattle.format.proofs.SheetCalls.{read-number, read-accepted, read-refused, read-zero, read-taken, turned-away, read-back}
 use Rattle.format.proofs.Compared.{as-before, comparison-is, plain-name, looked-most, no-further}
 use Rattle.format.proofs.DoubleEdges.{minus-zero, last-u64, past-u64, last-i64, past-i64, least-i64, below-i64, fractions, smallest}
-use Rattle.format.proofs.Wholes.{unsigned-of, signed-of, unsigned-absent, u32-absent, signed-absent}
+use Rattle.format.proofs.Wholes.{in-u64, no-u64, unsigned-of, signed-of, unsigned-absent, u32-absent, signed-absent}
+use Rattle.format.proofs.Closest.{closest-rounds, rounds-only}
+use Rattle.format.proofs.Picometres.{rounded, double-size, size-is, exact-size, above-read, read-above, in-picometres-once, size-mono}
+use Rattle.format.proofs.SizeEdges as size-edges
+use Rattle.format.proofs.SizeEdges.{plain, halfway, half-one, product-rounds, largest, not-above, plus-infinity}
+use Rattle.format.proofs.PicometresCalls.{picometres-number, picometres-number-only, picometres-accepted, picometres-table, picometres-refused}
+use Rattle.format.proofs.PicometresCalls.{picometres-size, size-once}
 use Rattle.format.proofs.Named.{tree-means}
 use Rattle.format.proofs.Absent.{counts-as-absent, open-whole, open-typed}
 
@@ -73,3 +83,35 @@ whole-numbers = record {
     flag-read : (b : Bool) → (unsigned (flag b) ≡ some (oneIf b)) × (signed (flag b) ≡ some (pos (oneIf b)))
     flag-read true = (refl, refl)
     flag-read false = (refl, refl)
+
+pub picometres : Picometres
+picometres = record {
+  nearest = λ m e n q. rounded m e n q .nearest;
+  ties-to-even = λ m e n q. rounded m e n q .even-of-two;
+  rounded-once = λ a b B. (closest a b, closest-rounds a b B, λ m. rounds-only a b B (closest a b) m (closest-rounds a b B));
+  held = λ m e n r h. double-size m e n r ∙ in-u64 n h;
+  not-held = λ m e n r h. double-size m e n r ∙ no-u64 n h;
+  above-is = λ v. (above-read v, λ (x, e). read-above v x e);
+  size-is = size-is;
+  size-only = λ v n m. in-picometres-once;
+  monotone = λ v w a b c d n m. size-mono;
+  exact = exact-size;
+  whole-micrometres = λ n N. exact-size (whole (pos n)) n 1 (n * 1_000_000) (whole-number stored N) (sym (mul-one (n * 1_000_000)));
+  plain = plain;
+  halfway = halfway;
+  half-one = half-one;
+  product-rounds = product-rounds;
+  smallest = size-edges.smallest;
+  last-u64 = size-edges.last-u64;
+  past-u64 = size-edges.past-u64;
+  largest = largest;
+  not-above = not-above;
+  plus-infinity = plus-infinity;
+  number = picometres-number;
+  number-only = picometres-number-only;
+  accepted = picometres-accepted;
+  table-zero = picometres-table;
+  refused-zero = picometres-refused;
+  size = picometres-size;
+  size-once = size-once;
+}

@@ -1,15 +1,15 @@
 -- The customer's change requests, as far as the demands do not say them already: statements only, for any bytes, summaries, indices and buffers.
-use Prim.Native.Nat.{ℕ, suc, _+_, _-_, _^_, _≤_, _<_}
+use Prim.Native.Nat.{ℕ, suc, _+_, _-_, _*_, _%_, _^_, _≤_, _<_}
 use mathlib.Core.Path.{_≡_}
-use mathlib.Core.Bool.{Bool}
+use mathlib.Core.Bool.{Bool, false}
 use mathlib.Core.Logic.{_↔_}
 use mathlib.Core.Option.{none, some}
-use mathlib.Core.List.{List, _∷_}
+use mathlib.Core.List.{List, [], _∷_}
 use lib.ListN.{length, getD, take}
 use lib.IntN.{ℤ, pos, negsuc, negℤ}
-use lib.Ieee.{Float, binary64, ofBits}
+use lib.Ieee.{Float, fin, binary64, up, down, ofBits}
 use Rattle.format.specs.Answer.{refused}
-use Rattle.format.specs.Bytes.{same, ascii}
+use Rattle.format.specs.Bytes.{same, ascii, zeros}
 use Rattle.format.specs.Text.{lossy}
 use Rattle.format.specs.Refusals as why
 use Rattle.format.specs.Values.{Value, flag, whole, double, level}
@@ -18,10 +18,14 @@ use Rattle.format.specs.Trees.{roomIn}
 use Rattle.format.specs.Attributes.{attributes, planeBytes}
 use Rattle.format.specs.Summary.{shapeOf}
 use Rattle.format.specs.Sheets.{sheet}
+use Rattle.format.specs.Calibration.{aboveZero}
+use Rattle.format.specs.Picometres.{picometres}
 use Rattle.format.specs.Comparison.{comparison, compared}
 use Rattle.format.specs.Calls.Open.{openCall}
 use Rattle.format.specs.Calls.Plane.{planeCall}
 use Rattle.format.specs.Calls.Sheet.{sheetCall, sheetReadCall}
+use Rattle.format.specs.Calls.Picometres.{picometresCall}
+use Rattle.format.specs.Grammar.Lists.{All}
 use Rattle.format.specs.Grammar.Sheets.{SheetSizes, SheetOf}
 use Rattle.format.specs.Grammar.Trees.{Tree}
 use Rattle.format.specs.Grammar.Values.{ValueOf, Field}
@@ -30,10 +34,12 @@ use Rattle.format.specs.Grammar.Attributes.{Sized}
 use Rattle.format.specs.Grammar.Loops.{UiCount, SpectralCount, Valid, Stops}
 use Rattle.format.specs.Grammar.Calibration.{NoStep}
 use Rattle.format.specs.Grammar.Channels.{Colored, Covers}
+use Rattle.format.specs.Grammar.Picometres.{distance, Rounds, Positive, Endless, AboveZero, InPicometres}
 use Rattle.format.specs.Grammar.Comparison.{NamesTell, Looked}
-use Rattle.format.specs.Refused.Order.{First}
+use Rattle.format.specs.Refused.Order.{First, FirstAt}
 use Rattle.format.specs.Refused.Sheet.{SheetRefusal, sheetOrder, SheetReadRefusal, sheetReadOrder}
-use Rattle.format.specs.Sentences.{Refuses, AcceptedUnless, SheetWritten, PlaneOn, SheetTaken, TurnedAway, ZeroSizes}
+use Rattle.format.specs.Refused.Picometres.{PicometresRefusal, picometresOrder, SizeIs}
+use Rattle.format.specs.Sentences.{Refuses, AcceptedUnless, AtSome, SheetWritten, PlaneOn, SheetTaken, TurnedAway, ZeroSizes}
 use Rattle.format.specs.Sentences.{SizeField, WholeNeeded, WholeTyped}
 use Rattle.format.specs.declared.Range.{Range}
 use Rattle.format.specs.declared.Entry.{Entry}
@@ -139,3 +145,51 @@ pub record WholeNumbers : Type 0 where
   pub open-typed : (file table : List ℕ) → openCall file table .number ≡ 0 → WholeTyped file (openCall file table .summary)
   -- in any tree of any bytes
   pub in-fields : (s : List ℕ) (r : Range) (es : List Entry) → Tree s r es → CountsAsAbsent s es
+
+-- ---- change request 5, "Pixel size in whole picometres"
+
+pub record Picometres : Type 0 where
+  -- of a double m × 2^e: no whole number is nearer to m × 2^e × 1,000,000, and where another is as near, the one that is given is even
+  pub nearest : (m : ℕ) (e : ℤ) (n : ℕ) → picometres (fin false m e) ≡ some n
+      → (k : ℕ) → distance (m * up e * 1_000_000) (down e) n ≤ distance (m * up e * 1_000_000) (down e) k
+  pub ties-to-even : (m : ℕ) (e : ℤ) (n : ℕ) → picometres (fin false m e) ≡ some n
+      → (k : ℕ) → distance (m * up e * 1_000_000) (down e) k ≡ distance (m * up e * 1_000_000) (down e) n → (k ≡ n → ⊥) → n % 2 ≡ 0
+  -- there is such a number, and one alone; it is given where u64 holds it, and no other is
+  pub rounded-once : (a b : ℕ) → 0 < b → (n : ℕ) × Rounds a b n × ((m : ℕ) → Rounds a b m → n ≡ m)
+  pub held : (m : ℕ) (e : ℤ) (n : ℕ) → Rounds (m * up e * 1_000_000) (down e) n → n < 2 ^ 64 → picometres (fin false m e) ≡ some n
+  pub not-held : (m : ℕ) (e : ℤ) (n : ℕ) → Rounds (m * up e * 1_000_000) (down e) n → 2 ^ 64 ≤ n → picometres (fin false m e) ≡ none
+  -- a value of any kind, whole numbers as they are stored: read as a double first it is above 0 where the rules say so, and has the picometres of the rules
+  pub above-is : (v : Value) → AboveZero v ↔ ((x : Float) × (aboveZero (float v) ≡ some x))
+  pub size-is : (v : Value) (n : ℕ) → (InPicometres v n × (n < 2 ^ 64)) ↔ ((x : Float) × (aboveZero (float v) ≡ some x) × (picometres x ≡ some n))
+  pub size-only : (v : Value) (n m : ℕ) → InPicometres v n → InPicometres v m → n ≡ m
+  -- a size that is no smaller has no fewer picometres
+  pub monotone : (v w : Value) (a b c d n m : ℕ) → Positive v a b → Positive w c d → a * d ≤ c * b → InPicometres v n → InPicometres w m → n ≤ m
+  -- a size that a whole number of picometres has exactly has that number, and so has a whole number of micrometres
+  pub exact : (v : Value) (size unit n : ℕ) → Positive v size unit → size * 1_000_000 ≡ n * unit → InPicometres v n
+  pub whole-micrometres : (n : ℕ) → 0 < n → InPicometres (whole (pos n)) (n * 1_000_000)
+  -- by bits: 1.0 and 0.1; 2^-7 and 3 × 2^-7 lie halfway; the last double below half a picometre and the next; one that a product of doubles gets wrong
+  pub plain : (picometres (ofBits binary64 0x3FF0000000000000) ≡ some 1_000_000) × (picometres (ofBits binary64 0x3FB999999999999A) ≡ some 100_000)
+  pub halfway : (picometres (ofBits binary64 0x3F80000000000000) ≡ some 7812) × (picometres (ofBits binary64 0x3F98000000000000) ≡ some 23438)
+  pub half-one : (picometres (ofBits binary64 0x3EA0C6F7A0B5ED8D) ≡ some 0) × (picometres (ofBits binary64 0x3EA0C6F7A0B5ED8E) ≡ some 1)
+  pub product-rounds : picometres (ofBits binary64 0x41DD481499755D4C) ≡ some 1_965_052_517_833_819
+  -- the smallest double, the last that a u64 holds, the next, the largest and the infinity
+  pub smallest : picometres (ofBits binary64 1) ≡ some 0
+  pub last-u64 : picometres (ofBits binary64 0x42B0C6F7A0B5ED8D) ≡ some 18_446_744_073_709_550_781
+  pub past-u64 : picometres (ofBits binary64 0x42B0C6F7A0B5ED8E) ≡ none
+  pub largest : (picometres (ofBits binary64 0x7FEFFFFFFFFFFFFF) ≡ none) × (picometres (ofBits binary64 0x7FF0000000000000) ≡ none)
+  -- a NaN, minus infinity, −0 and −1 are not above 0, and plus infinity is
+  pub not-above : All (λ bits. AboveZero (double (ofBits binary64 bits)) → ⊥)
+      (0x7FF8000000000000 ∷ 0xFFF0000000000000 ∷ 0x8000000000000000 ∷ 0xBFF0000000000000 ∷ [])
+  pub plus-infinity : Endless (double (ofBits binary64 0x7FF0000000000000))
+  -- the call, for any bytes
+  pub number : (file : List ℕ) (u : Summary) (table : List ℕ)
+      → FirstAt (PicometresRefusal file u (roomIn (length table))) picometresOrder (picometresCall file u table .number)
+  pub number-only : (file : List ℕ) (u : Summary) (room n m : ℕ) → FirstAt (PicometresRefusal file u room) picometresOrder n
+      → FirstAt (PicometresRefusal file u room) picometresOrder m → n ≡ m
+  pub accepted : (file : List ℕ) (u : Summary) (table : List ℕ)
+      → AcceptedUnless (AtSome (PicometresRefusal file u (roomIn (length table)))) (picometresCall file u table .number)
+  pub table-zero : (file : List ℕ) (u : Summary) (table : List ℕ) → picometresCall file u table .table ≡ zeros (length table)
+  pub refused-zero : (file : List ℕ) (u : Summary) (table : List ℕ) → Refuses (picometresCall file u table .number) → picometresCall file u table .picometres ≡ 0
+  pub size : (file : List ℕ) (u : Summary) (table : List ℕ) → picometresCall file u table .number ≡ 0 → SizeIs file u (picometresCall file u table .picometres)
+  -- no bytes have two sizes
+  pub size-once : (file : List ℕ) (u : Summary) (n m : ℕ) → SizeIs file u n → SizeIs file u m → n ≡ m

@@ -3,6 +3,7 @@
 // printed; rust/replay/src/step.rs says how a step is stored.
 use border::nd2_read_plane;
 use capi::nd2_channels;
+use capi::nd2_picometres;
 use capi::nd2_sheet_read;
 use cursor::le4;
 use cursor::le8;
@@ -49,6 +50,8 @@ const CHANNELS: u64 = 9;
 const SHEET: u64 = 10;
 
 const READ_SHEET: u64 = 11;
+
+const PICOMETRES: u64 = 12;
 
 // The most bytes that a file has, or that are lent as a table or as a buffer.
 const MOST: usize = 65_536;
@@ -219,6 +222,17 @@ fn ask_channels(file: &[u8], u: Summary, table: &mut [u8], row: &mut [u8]) {
     show(b"channels ", n, fold_bytes(fold_bytes(0, row), table));
 }
 
+// The pixel size in picometres, as the C interface has it: the summary is lent bytes, and the size a lent number.
+fn ask_picometres(file: &[u8], u: Summary, table: &mut [u8]) {
+    let mut summary = [0u8; 144];
+    put_summary(&mut summary, u);
+    let mut picometres: u64 = 1;
+    let n = nd2_picometres(file, &summary, table, &mut picometres);
+    let mut size = [0u8; 8];
+    put8(&mut size, 0, picometres);
+    show(b"picometres ", n, fold_bytes(fold_bytes(0, &size), table));
+}
+
 // The question of a step that is lent a buffer alone; `text` is what follows the step.
 fn ask_buffer(file: &[u8], u: Summary, q: Step, text: &[u8], buffer: &mut [u8]) {
     if q.kind == PLANE {
@@ -252,6 +266,10 @@ fn ask(
     }
     if q.kind == TREE {
         ask_tree(file, u, text, table);
+        return u;
+    }
+    if q.kind == PICOMETRES {
+        ask_picometres(file, u, table);
         return u;
     }
     if q.kind == BORDER {

@@ -1,8 +1,7 @@
 -- `nd2_channels`: the channels call on the summary that the bytes say.
-use mathlib.Core.Path.{refl, sym, _∙_}
+use mathlib.Core.Path.{refl, _∙_}
 use native.Mathlib.Omega.{arith}
 use lib.ListN.{length}
-use Rattle.format.specs.Bytes.{zeros}
 use Rattle.capi.proofs.OnSummary.{on-some, on-none, both, said, where-said, unsaid, accepted-said, where-unsaid, refused-unsaid}
 use Rattle.capi.proofs.Rows.{row-first, row-accepted, row-refused, row-recorded}
 use Rattle.capi.specs.OnBytes.{channelRow, channelsOn}
