@@ -16,7 +16,8 @@ use Rattle.capi.specs.OnBytes.{onSummary}
 use Rattle.capi.specs.Said.{Said, WhereSaid, Unsaid, AcceptedOn}
 
 -- the bytes say the summary
-pub on-some : {A : Type 0} (bad : A) (call : Summary → A) (r : Laid) {x : Option Summary} → laidOf r ≡ x → r .ok ≡ true → onSummary bad call x ≡ call (r .summary)
+pub on-some : {A : Type 0} (bad : A) (call : Summary → A) (r : Laid) {x : Option Summary}
+    → laidOf r ≡ x → r .ok ≡ true → onSummary bad call x ≡ call (r .summary)
 unfolding onSummary laidOf
 on-some bad call r e k = rw (← e, k)
 

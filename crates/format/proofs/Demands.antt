@@ -57,7 +57,7 @@ zero-blank =
 
 module _ (file : List ℕ) (room : ℕ) where
   -- a number of 0 comes with a summary
-  opened-given : numberOf (opened file room) ≡ 0 → opened file room ≡ given (summaryOrZero (opened file room))
+  pub opened-given : numberOf (opened file room) ≡ 0 → opened file room ≡ given (summaryOrZero (opened file room))
   unfolding numberOf summaryOrZero
   opened-given e = go (opened file room) (opened-some file room) e
     where

@@ -270,7 +270,9 @@ double-size m e n r = ap (λ (z : ℕ). inU64 (pos z)) (rounds-only (m * up e * 
 
 pub rounded : (m : ℕ) (e : ℤ) (n : ℕ) → picometres (fin false m e) ≡ some n → Rounds (m * up e * 1_000_000) (down e) n
 unfolding picometres
-rounded m e n q = rw (pos-inj (u64-in (pos (closest (m * up e * 1_000_000) (down e))) .holds n q .0)) at (closest-rounds (m * up e * 1_000_000) (down e) (down-pos e))
+rounded m e n q =
+    let e₂ = pos-inj (u64-in (pos (closest (m * up e * 1_000_000) (down e))) .holds n q .0) in
+    rw e₂ at (closest-rounds (m * up e * 1_000_000) (down e) (down-pos e))
 
 -- ---- a value of any kind
 

@@ -109,7 +109,7 @@ module _ (s : List ℕ) (es : List Entry) (M : Means s es) where
 
 -- ---- the stages
 
-abbrev calibrationName : List ℕ
+abbrev pub calibrationName : List ℕ
 calibrationName = ascii "ImageCalibrationLV|0!"
 
 module _ (s : List ℕ) (u : Summary) where

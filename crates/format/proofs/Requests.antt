@@ -24,6 +24,7 @@ use Rattle.format.proofs.SizeEdges as size-edges
 use Rattle.format.proofs.SizeEdges.{plain, halfway, half-one, product-rounds, largest, not-above, plus-infinity}
 use Rattle.format.proofs.PicometresCalls.{picometres-number, picometres-number-only, picometres-accepted, picometres-table, picometres-refused}
 use Rattle.format.proofs.PicometresCalls.{picometres-size, size-once}
+use Rattle.format.proofs.OpenedSize.{opened-size}
 use Rattle.format.proofs.Named.{tree-means}
 use Rattle.format.proofs.Absent.{counts-as-absent, open-whole, open-typed}
 
@@ -114,4 +115,5 @@ picometres = record {
   refused-zero = picometres-refused;
   size = picometres-size;
   size-once = size-once;
+  opened-size = opened-size;
 }

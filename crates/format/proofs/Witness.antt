@@ -16,6 +16,7 @@ use Rattle.format.specs.Values.{field, slotsOf, nameOf, putNamed, putUnn
 use Rattle.format.specs.Attributes.{attributes, uncompressed, badBits, badShape}
 use Rattle.format.specs.Loops.{experiment, sizeOf, pointCount, said, loopParams, orZero, childLevels, append, judge, hasAxis}
 use Rattle.format.specs.Calibration.{zClass, pixelSize, zStep, zFloat, calibration, unstated}
+use Rattle.format.specs.Picometres.{picometres}
 use Rattle.format.specs.Channels.{planeRecords, planesLevel, planeLevels, planeRecord, coversOf, covered, channelOf, emptyChannel}
 use Rattle.format.specs.Summary.{badSummary, noLoop, summaryOf}
 use Rattle.format.specs.Frames.{countOf, seqIndex, frames, indexAt, frameName}
@@ -25,6 +26,7 @@ use Rattle.format.specs.Calls.Plane.{Outcome, planeCall}
 use Rattle.format.specs.Calls.Register.{registerCall}
 use Rattle.format.specs.Calls.Channels.{channelsCall}
 use Rattle.format.specs.Calls.Tree.{treeCall}
+use Rattle.format.specs.Calls.Picometres.{picometresCall}
 use Rattle.format.specs.Calls.Border.{borderCall}
 use Rattle.format.specs.Grammar.File.{Joined}
 use Rattle.format.specs.declared.Axis.the-variants.{T, P}
@@ -193,6 +195,17 @@ pub pair-tree :
 unfolding pair pairSummary ascii leBytes endMark mapName treeCall tableBytes refuseIf badSummary andThen mapEntries part same orRefuse offsetOf
     chunkData namedTree within treeIn leAt
 pair-tree = refl
+
+-- 0.1 micrometres, with two entries lent and with one
+pub record PairSize : Type 0 where
+  pub told : picometresCall pair pairSummary (replicate 96 7) ≡ record { number = 0; picometres = 100_000; table = replicate 96 0 }
+  pub short : picometresCall pair pairSummary (replicate 95 7) ≡ record { number = 18; picometres = 0; table = replicate 95 0 }
+
+pub pair-size : PairSize
+unfolding pair pairSummary ascii leBytes endMark mapName picometresCall refuseIf badSummary andThen mapEntries part same orRefuse offsetOf
+    chunkData namedTree within treeIn leAt asLevel field slotsOf nameOf units lossy bind putNamed putUnnamed elements slotValue valueAt
+    float positive lt ofBits pixelSize picometres
+pair-size = record { told = refl; short = refl }
 
 pub pair-border :
     borderCall pair (replicate 1056 7) 1 1 1 0 lent

@@ -40,7 +40,7 @@ use Rattle.format.specs.Refused.Order.{First, FirstAt}
 use Rattle.format.specs.Refused.Sheet.{SheetRefusal, sheetOrder, SheetReadRefusal, sheetReadOrder}
 use Rattle.format.specs.Refused.Picometres.{PicometresRefusal, picometresOrder, SizeIs}
 use Rattle.format.specs.Sentences.{Refuses, AcceptedUnless, AtSome, SheetWritten, PlaneOn, SheetTaken, TurnedAway, ZeroSizes}
-use Rattle.format.specs.Sentences.{SizeField, WholeNeeded, WholeTyped}
+use Rattle.format.specs.Sentences.{SizeField, WholeNeeded, WholeTyped, SizeTold}
 use Rattle.format.specs.declared.Range.{Range}
 use Rattle.format.specs.declared.Entry.{Entry}
 use Rattle.format.specs.declared.Attributes.{Attributes}
@@ -189,7 +189,11 @@ pub record Picometres : Type 0 where
   pub accepted : (file : List ℕ) (u : Summary) (table : List ℕ)
       → AcceptedUnless (AtSome (PicometresRefusal file u (roomIn (length table)))) (picometresCall file u table .number)
   pub table-zero : (file : List ℕ) (u : Summary) (table : List ℕ) → picometresCall file u table .table ≡ zeros (length table)
-  pub refused-zero : (file : List ℕ) (u : Summary) (table : List ℕ) → Refuses (picometresCall file u table .number) → picometresCall file u table .picometres ≡ 0
+  pub refused-zero : (file : List ℕ) (u : Summary) (table : List ℕ)
+      → Refuses (picometresCall file u table .number) → picometresCall file u table .picometres ≡ 0
   pub size : (file : List ℕ) (u : Summary) (table : List ℕ) → picometresCall file u table .number ≡ 0 → SizeIs file u (picometresCall file u table .picometres)
   -- no bytes have two sizes
   pub size-once : (file : List ℕ) (u : Summary) (n m : ℕ) → SizeIs file u n → SizeIs file u m → n ≡ m
+  -- beside an opening with a table as long
+  pub opened-size : (file table : List ℕ) → openCall file table .number ≡ 0
+      → SizeTold (openCall file table .summary) (picometresCall file (openCall file table .summary) table)

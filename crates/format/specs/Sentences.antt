@@ -2,18 +2,22 @@
 use Prim.Native.Nat.{ℕ, suc, _+_, _^_, _≤_}
 use mathlib.Core.Path.{_≡_}
 use mathlib.Core.Logic.{_↔_}
+use mathlib.Core.Option.{none, some}
 use mathlib.Core.List.{List, []}
 use lib.ListN.{length, take, drop}
 use lib.Ieee.{Float}
 use Rattle.format.specs.Bytes.{zeros, ascii}
 use Rattle.format.specs.Chunks.{dataIn}
 use Rattle.format.specs.Values.{double, level}
+use Rattle.format.specs.Numbers.{narrow}
+use Rattle.format.specs.Picometres.{picometres}
 use Rattle.format.specs.Attributes.{planeBytes}
 use Rattle.format.specs.Frames.{seqIndex}
 use Rattle.format.specs.Summary.{shapeOf, loopsOf}
 use Rattle.format.specs.Refusals as why
 use Rattle.format.specs.Sheets.{sheet}
 use Rattle.format.specs.Calls.Plane.{planeCall}
+use Rattle.format.specs.Calls.Picometres.{Sized}
 use Rattle.format.specs.Grammar.Sheets.{SheetOf}
 use Rattle.format.specs.Grammar.Trees.{Tree}
 use Rattle.format.specs.Grammar.Values.{Field}
@@ -141,3 +145,12 @@ pub record WholeNeeded (file : List ℕ) (room n : ℕ) : Type 0 where
 abbrev pub WholeTyped : List ℕ → Summary → Type 0
 WholeTyped file u =
     (es : List Entry) (i : ℕ) (x : Float) → ExperimentAt file es i → Field file es (suc i) (ascii "eType") (double x) → NotSigned x → loopsOf u ≡ []
+
+-- ---- change request 5, "Pixel size in whole picometres"
+
+-- What a picometres call says of a file beside the summary u that opening gave: where u states a size, it is the f32 of the double whose picometres are told,
+-- or of which a u64 has none (28); where u states none, the call is refused, and not with 28.
+pub data SizeTold (u : Summary) (said : Sized) : Type 0 where
+  stated : (x : Float) → u .calibration ≡ 1 → u .x ≡ narrow x → said .number ≡ 0 → picometres x ≡ some (said .picometres) → SizeTold u said
+  over : (x : Float) → u .calibration ≡ 1 → u .x ≡ narrow x → said .number ≡ why.sizeRange → picometres x ≡ none → SizeTold u said
+  unstated : (u .calibration ≡ 1 → ⊥) → Refuses (said .number) → (said .number ≡ why.sizeRange → ⊥) → SizeTold u said

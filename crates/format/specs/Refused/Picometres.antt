@@ -1,4 +1,4 @@
--- The picometres call, by stages, since 11 comes twice: the tree call's refusals for the calibration's chunk, then no size above 0, then a size that is too large.
+-- The picometres call, by stages, since 11 comes twice: the tree call's refusals for the calibration's chunk, then no size above 0, then a size too large.
 use Prim.Native.Nat.{ℕ, _^_, _≤_}
 use mathlib.Core.List.{List, [], _∷_, _++_, map}
 use Rattle.format.specs.Bytes.{ascii}

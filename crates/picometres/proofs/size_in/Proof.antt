@@ -39,14 +39,16 @@ unfolding picometresIn andThen orRefuse
 returns-2 c =
     let p = c .before .before .before in
     let k = p .before .before in
-    rw (← k .before .before .parse-calibration-um .ensures, k .x .given .1, ← p .picometres .ensures, c .before .enum-told2 .given .1) (c .refused2 .ensures)
+    let s = k .before .before .parse-calibration-um .ensures in
+    rw (← s, k .x .given .1, ← p .picometres .ensures, c .before .enum-told2 .given .1) (c .refused2 .ensures)
 
 returns-3 : tie.Need-returns-3
 unfolding picometresIn andThen orRefuse numberOf orZero
 returns-3 c =
     let p = c .before .before .before in
     let k = p .before .before in
-    rw (← k .before .before .parse-calibration-um .ensures, k .x .given .1, ← p .picometres .ensures, c .before .n .given .1) (record { number = refl; size = refl })
+    let s = k .before .before .parse-calibration-um .ensures in
+    rw (← s, k .x .given .1, ← p .picometres .ensures, c .before .n .given .1) (record { number = refl; size = refl })
 
 pub size-in-spec : {M : Type 1} → statement M
 size-in-spec =

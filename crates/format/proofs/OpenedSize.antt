@@ -1,0 +1,122 @@
+-- Beside the summary of an opening: the size that it states in f32 is that of the double whose picometres are told. Assumes nothing.
+use Prim.Native.Nat.{ℕ}
+use mathlib.Core.Path.{_≡_, refl, sym, ap, _∙_}
+use mathlib.Core.Bool.{Bool, true, false, cond}
+use mathlib.Core.Option.{Option, none, some}
+use mathlib.Core.List.{List}
+use native.Mathlib.Omega.{arith}
+use lib.Dec.{eqb, ltb}
+use lib.ListN.{length}
+use lib.Ieee.{Float}
+use Rattle.format.proofs.Answers.{refused≢given, given-inj, andThen-given, refuseIf-given}
+use Rattle.format.proofs.Orders.{decides-holds, all-in, nonzero, not-in}
+use Rattle.format.proofs.Summaries.{read-sound}
+use Rattle.format.proofs.Sounds.{joined-sound}
+use Rattle.format.proofs.Files.{opened-iff-joined}
+use Rattle.format.proofs.Demands.{opened-given}
+use Rattle.format.proofs.TreeCalls.{in-order, named-decides}
+use Rattle.format.proofs.PicometresCalls.{calibrationName}
+use Rattle.format.specs.Answer.{Answer, refused, given, refuseIf, andThen, orRefuse, numberOf}
+use Rattle.format.specs.Bytes.{ascii, most64}
+use Rattle.format.specs.Chunks.{dataIn}
+use Rattle.format.specs.Refusals as why
+use Rattle.format.specs.Map.{MapEntry, mapEntries, mapRange}
+use Rattle.format.specs.Trees.{roomIn, mostDepth, namedTree}
+use Rattle.format.specs.Values.{field, asLevel}
+use Rattle.format.specs.Attributes.{attributes, planeBytes}
+use Rattle.format.specs.Loops.{experiment}
+use Rattle.format.specs.Numbers.{narrow}
+use Rattle.format.specs.Calibration.{zStep, zFloat, pixelSize, unstated, stated, calibrationBy, calibration}
+use Rattle.format.specs.Picometres.{picometres}
+use Rattle.format.specs.Summary.{badSummary, summaryOf, mapOf}
+use Rattle.format.specs.Calls.Open.{opened, openCall, summaryOrZero}
+use Rattle.format.specs.Calls.Tree.{treeNamed}
+use Rattle.format.specs.Calls.Picometres.{picometresIn, picometresOf, orZero, picometresCall}
+use Rattle.format.specs.Refused.Tree.{treeOrder}
+use Rattle.format.specs.Sentences.{SizeTold}
+use Rattle.format.specs.Sentences as sentences
+use Rattle.format.specs.declared.Range.{Range}
+use Rattle.format.specs.declared.Entry.{Entry}
+use Rattle.format.specs.declared.Calibration.{Calibration}
+use Rattle.format.specs.declared.Summary.{Summary}
+
+-- a number that is neither 0 nor 28
+abbrev Other : ℕ → Type 0
+Other n = (n ≡ 0 → ⊥) × (n ≡ why.sizeRange → ⊥)
+
+-- the same of a calibration and the call's answer
+data Told (c : Calibration) (a : Answer ℕ) : Type 0 where
+  size-of : (x : Float) → c .state ≡ 1 → c .size ≡ narrow x → a ≡ orRefuse (picometres x) why.sizeRange → Told c a
+  refuses : (n : ℕ) → (c .state ≡ 1 → ⊥) → a ≡ refused n → Other n → Told c a
+
+module _ (s : List ℕ) (u : Summary) (room : ℕ) (es : List MapEntry) (map : mapEntries (mapOf s u) ≡ given es) where
+  -- a tree's numbers
+  tree-other : (n : ℕ) → namedTree s (mapOf s u) es room calibrationName ≡ refused n → Other n
+  tree-other n e =
+      let i = in-order s u calibrationName room n (decides-holds (named-decides s u calibrationName room es map) e) in
+      let h = all-in (nonzero treeOrder refl) i in
+      (λ z. omega arith, λ z. not-in why.sizeRange treeOrder refl (rw z at i))
+
+  by-tree : (z : Option Float) (c : Calibration) (t : Answer (List Entry)) → namedTree s (mapOf s u) es room calibrationName ≡ t
+      → calibrationBy s z t ≡ given c → Told c (andThen t (picometresIn s))
+  unfolding calibrationBy stated unstated picometresIn andThen orRefuse
+  by-tree z c (given ts) q e = by-size (pixelSize s ts) e
+    where
+      by-size : (o : Option Float) → given (stated o z) ≡ given c → Told c (andThen (orRefuse o why.missing) λ x. orRefuse (picometres x) why.sizeRange)
+      by-size none e = rw (← given-inj e) (refuses why.missing (λ h. omega arith) refl (λ h. omega arith, λ h. omega arith))
+      by-size (some x) e = rw (← given-inj e) (size-of x refl refl refl)
+  by-tree z c (refused n) q e = by-number (eqb n why.table) e
+    where
+      unsized : (b : Bool) → unstated (cond b 2 0) .state ≡ 1 → ⊥
+      unsized true h = omega arith
+      unsized false h = omega arith
+
+      by-number : (b : Bool) → cond b (refused why.table) (given (unstated (cond (eqb n why.packed) 2 0))) ≡ given c → Told c (refused n)
+      by-number true e = absurd (refused≢given e)
+      by-number false e = rw (← given-inj e) (refuses n (unsized (eqb n why.packed)) refl (tree-other n q))
+
+  told : badSummary s u ≡ false → (z : Option Float) (c : Calibration) → calibration s (mapOf s u) es room z ≡ given c → Told c (picometresOf s u room)
+  unfolding calibration picometresOf treeNamed refuseIf andThen
+  told b z c e = rw (b, map) (by-tree z c (namedTree s (mapOf s u) es room calibrationName) refl e)
+
+-- the summary of an opening
+opened-told : (s : List ℕ) (room : ℕ) (u : Summary) → opened s room ≡ given u
+    → (c : Calibration) × (u .calibration ≡ c .state) × (u .x ≡ c .size) × Told c (picometresOf s u room)
+unfolding opened summaryOf
+opened-told s room u e =
+    let b = read-sound s u (joined-sound s u (opened-iff-joined s room u .0 e .0)) in
+    let (r, f₁, e₁) = andThen-given (mapRange s) _ e in
+    let m = dataIn s r in
+    let (es, f₂, e₂) = andThen-given (mapEntries m) _ e₁ in
+    let (ats, f₃, e₃) = andThen-given (namedTree s m es room (ascii "ImageAttributesLV!")) _ e₂ in
+    let (a, f₄, e₄) = andThen-given (attributes s ats) _ e₃ in
+    let (ts, f₅, e₅) = andThen-given (namedTree s m es room (ascii "ImageMetadataLV!")) _ e₄ in
+    let (i, f₆, e₆) = andThen-given (orRefuse (asLevel (field s ts 0 (ascii "SLxExperiment"))) why.missing) _ e₅ in
+    let (ls, f₇, e₇) = andThen-given (experiment s ts i) _ e₆ in
+    let (f₈, e₈) = refuseIf-given (ltb most64 (planeBytes a)) why.frameShape _ e₇ in
+    let (c, f₉, e₉) = andThen-given (calibration s m es room (zFloat (zStep mostDepth s ts i))) _ e₈ in
+    let q : summaryOf r a ls c ≡ u = given-inj e₉ in
+    (c, ap (λ (v : Summary). v .calibration) (sym q), ap (λ (v : Summary). v .x) (sym q), go r (ap (λ (v : Summary). v .map) q) es f₂ b _ c f₉)
+  where
+    go : (r : Range) → r ≡ u .map → (es : List MapEntry) → mapEntries (dataIn s r) ≡ given es → badSummary s u ≡ false → (z : Option Float) (c : Calibration)
+        → calibration s (dataIn s r) es room z ≡ given c → Told c (picometresOf s u room)
+    go r q es f b z c g = told s u room es (rw q at f) b z c (rw q at g)
+
+-- and what the call says of it
+by-answer : (file table : List ℕ) (u : Summary) (c : Calibration) → u .calibration ≡ c .state → u .x ≡ c .size
+    → Told c (picometresOf file u (roomIn (length table))) → SizeTold u (picometresCall file u table)
+unfolding picometresCall numberOf orZero orRefuse
+by-answer file table u c p q (size-of x h k a) = go (picometres x) refl
+  where
+    go : (o : Option ℕ) → picometres x ≡ o → SizeTold u (picometresCall file u table)
+    go none e = sentences.over x (p ∙ h) (q ∙ k) (rw (a, e) refl) e
+    go (some n) e = sentences.stated x (p ∙ h) (q ∙ k) (rw (a, e) refl) (e ∙ (rw (a, e) refl))
+by-answer file table u c p q (refuses n h a (z, w)) = sentences.unstated (λ y. h (sym p ∙ y)) (λ y. z (rw a at y)) (λ y. w (rw a at y))
+
+pub opened-size : (file table : List ℕ) → openCall file table .number ≡ 0
+    → SizeTold (openCall file table .summary) (picometresCall file (openCall file table .summary) table)
+unfolding openCall
+opened-size file table e =
+    let room = roomIn (length table) in
+    let (c, p, q, t) = opened-told file room (summaryOrZero (opened file room)) (opened-given file room e) in
+    by-answer file table (summaryOrZero (opened file room)) c p q t
