@@ -1,10 +1,12 @@
 //! Writes ND2 files: trees record by record, chunks and the map (`tree`, `file`), the usual parts of a file (`parts`),
 //! whole rollers (`roller`), random files, good and damaged, from a seed (`random`), files at the limits
-//! (`corner`), and files of single fields that are read as whole numbers (`whole`).
+//! (`corner`), files of single fields that are read as whole numbers (`whole`), and files of single pixel sizes
+//! (`pixel`).
 
 pub mod corner;
 pub mod file;
 pub mod parts;
+pub mod pixel;
 pub mod random;
 pub mod rng;
 pub mod roller;

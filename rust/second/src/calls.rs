@@ -24,7 +24,7 @@ fn named_tree(file: &[u8], map: &Map, name: &[u8], room: usize) -> Result<Vec<En
     trees::read(file, data, room)
 }
 
-fn named_root(file: &[u8], map: &Map, name: &[u8], room: usize) -> Result<Level, u32> {
+pub(crate) fn named_root(file: &[u8], map: &Map, name: &[u8], room: usize) -> Result<Level, u32> {
     let entries = named_tree(file, map, name, room)?;
     Ok(values::root(file, &entries))
 }
@@ -67,7 +67,7 @@ fn calibrated(file: &[u8], map: &Map, experiment: &Level, room: usize) -> Result
 }
 
 /// 20 and 5: the map of a summary.
-fn map_of<'a>(file: &'a [u8], summary: &Summary) -> Result<Map<'a>, u32> {
+pub(crate) fn map_of<'a>(file: &'a [u8], summary: &Summary) -> Result<Map<'a>, u32> {
     if !summary.sound(file) {
         return Err(SUMMARY);
     }
