@@ -24,7 +24,7 @@
 //! ```
 //!
 //! The file need not be on a disk: [`Reader::open`] takes any bytes. [`Reader::sheet`] gives a plane as a TIFF sheet, and
-//! [`Sheet::read`] reads one.
+//! [`Sheet::read`] reads one. [`Reader::picometres`] gives the size of a pixel as a whole number.
 
 #![warn(missing_docs)]
 

@@ -1,8 +1,9 @@
 //! The C interface as it is (`include/nd2.h`): every call over lent slices, answered by a number.
 //!
 //! 0 is an accepted call, any other number a [`Refusal`](crate::Refusal). On a refusal samples, register and sheet keep
-//! every byte, and table, summary, channel records and the sizes of a sheet are all zero. [`Reader`](crate::Reader) and
-//! [`Sheet`](crate::Sheet) are made of these calls; they are for callers that lend their own buffers, and for tests.
+//! every byte, and table, summary, channel records, the sizes of a sheet and the picometres of a pixel are all zero.
+//! [`Reader`](crate::Reader) and [`Sheet`](crate::Sheet) are made of these calls; they are for callers that lend their
+//! own buffers, and for tests.
 //!
 //! Every `unsafe` block here passes a slice as its pointer and its length, or a number that is lent. A slice of Rust is
 //! never null, lives through the call, and one that is written overlaps no other: all that the header asks for.
@@ -88,6 +89,15 @@ mod calls {
             summary_len: usize,
             buffer: *mut u8,
             buffer_len: usize,
+        ) -> u32;
+        pub fn nd2_picometres(
+            file: *const u8,
+            file_len: usize,
+            summary: *const u8,
+            summary_len: usize,
+            table: *mut u8,
+            table_len: usize,
+            picometres: *mut u64,
         ) -> u32;
         pub fn nd2_read_plane(
             file: *const u8,
@@ -215,6 +225,21 @@ pub fn register(file: &[u8], summary: &[u8], buffer: &mut [u8]) -> u32 {
             summary.len(),
             buffer.as_mut_ptr(),
             buffer.len(),
+        )
+    }
+}
+
+/// Tells the size of a pixel in whole picometres. The table is all zero afterwards.
+pub fn picometres(file: &[u8], summary: &[u8], table: &mut [u8], picometres: &mut u64) -> u32 {
+    unsafe {
+        calls::nd2_picometres(
+            file.as_ptr(),
+            file.len(),
+            summary.as_ptr(),
+            summary.len(),
+            table.as_mut_ptr(),
+            table.len(),
+            picometres,
         )
     }
 }

@@ -177,6 +177,31 @@ impl<'a> Reader<'a> {
         Ok(Channel::read_all(self.file, &row))
     }
 
+    /// The size of a pixel in whole picometres: the file's own number of micrometres times 1,000,000, to the nearest
+    /// whole number, and to the even one from the middle between two. Nothing else is rounded on the way;
+    /// [`Summary::pixel_size`] is the same size as f32.
+    ///
+    /// # Errors
+    ///
+    /// 11 where the file states no size above 0, 28 where the size is infinite or over 2^64 - 1 picometres, 4 and 6 to
+    /// 10 where the tree that states it cannot be read (8 where it is packed), and 18 where there is no memory for its
+    /// entries.
+    ///
+    /// ```
+    /// let bytes = sample::roller(24, 11, 2, 4, 4);
+    /// let reader = nd2::Reader::open(&bytes)?;
+    /// assert_eq!(reader.summary().pixel_size, Some((0.325, 0.325)));
+    /// assert_eq!(reader.picometres()?, 325_000);
+    /// # Ok::<(), nd2::Refusal>(())
+    /// ```
+    pub fn picometres(&self) -> Result<u64, Refusal> {
+        let mut picometres = 0;
+        with_table(self.file, self.room, |table| {
+            raw::picometres(self.file, &self.laid, table, &mut picometres)
+        })?;
+        Ok(picometres)
+    }
+
     /// Every frame that the loops make, in order of its number, with its place in the file where the map has it.
     ///
     /// # Errors

@@ -59,6 +59,7 @@ refusals! {
     25 BUFFER "buffer" "the buffer is too short for the answer"
     26 SHEET_LONG "sheet long" "a sheet would have more than 4,294,967,295 bytes"
     27 SHEET_LAYOUT "sheet layout" "the sheet is not of this reader's layout"
+    28 SIZE_RANGE "size range" "the pixel size is infinite, or more than 2^64 - 1 picometres"
 }
 
 impl Refusal {
@@ -121,7 +122,7 @@ mod tests {
     #[test]
     fn numbers_rise_from_one_without_gaps() {
         let numbers: Vec<u32> = Refusal::ALL.iter().map(|r| r.number()).collect();
-        assert_eq!(numbers, (1..=27).collect::<Vec<u32>>());
+        assert_eq!(numbers, (1..=28).collect::<Vec<u32>>());
     }
 
     #[test]
@@ -131,6 +132,7 @@ mod tests {
         assert_eq!(Refusal::BUFFER.word(), "buffer");
         assert_eq!(Refusal::SHEET_LONG.word(), "sheet long");
         assert_eq!(Refusal::SHEET_LAYOUT.word(), "sheet layout");
+        assert_eq!(Refusal::SIZE_RANGE.word(), "size range");
     }
 
     #[test]

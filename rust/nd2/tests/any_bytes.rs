@@ -1,7 +1,7 @@
 //! Whatever the bytes are, there is an answer and no panic.
 
-use nd2::raw::SHEET_HEAD_BYTES;
-use nd2::{Reader, Refusal, Sheet};
+use nd2::raw::{self, SHEET_HEAD_BYTES, SUMMARY_BYTES};
+use nd2::{Reader, Refusal, Sheet, State};
 use sample::{random, roller, Rng};
 
 /// Asks everything of a file; gives its refusal, if it does not open.
@@ -27,12 +27,22 @@ fn asked(bytes: &[u8]) -> Option<Refusal> {
     }
     let channels = reader.channels().unwrap();
     assert_eq!(channels.len() as u64, summary.components);
+    picometres(&reader);
     for name in ["ImageMetadataLV!", random::SPARE, "", "!"] {
         if let Ok(tree) = reader.tree(name) {
             let _ = format!("{tree:?}");
         }
     }
     None
+}
+
+/// A size is stated where it has picometres or too many of them.
+fn picometres(reader: &Reader) {
+    let told = reader.picometres();
+    let stated = matches!(told, Ok(_) | Err(Refusal::SIZE_RANGE));
+    assert_eq!(stated, reader.summary().state == State::Stated, "{told:?}");
+    let packed = told == Err(Refusal::PACKED);
+    assert_eq!(packed, reader.summary().state == State::Packed, "{told:?}");
 }
 
 /// A sheet is there where its plane is, and reading gives that back.
@@ -125,4 +135,31 @@ fn any_bytes_as_a_sheet() {
         }
     }
     assert_eq!(Sheet::read(&[]), Err(Refusal::SHEET_LAYOUT));
+}
+
+/// Any bytes as file and as summary, tables of any length: a refusal is 0 picometres, and the table is always zero.
+#[test]
+fn any_bytes_as_a_calibration() {
+    let rng = &mut Rng::new(2);
+    let mut accepted = 0;
+    for seed in 0..1500 {
+        let file = random::file(seed);
+        let mut summary = [0; SUMMARY_BYTES];
+        raw::open(&file, &mut vec![0; 24 * file.len()], &mut summary);
+        if rng.one_in(3) {
+            let at = rng.place(SUMMARY_BYTES);
+            summary[at] = rng.word() as u8;
+        }
+        let len = rng.place(SUMMARY_BYTES + 1);
+        let any = rng.bytes(len);
+        for summary in [&summary[..], &summary[..len], &any] {
+            let mut table = vec![0xA5; rng.place(700)];
+            let mut picometres = u64::MAX;
+            let number = raw::picometres(&file, summary, &mut table, &mut picometres);
+            assert!(table.iter().all(|&byte| byte == 0), "seed {seed}");
+            assert!(number == 0 || picometres == 0, "seed {seed}: {number}");
+            accepted += (number == 0) as u32;
+        }
+    }
+    assert!(accepted > 100, "{accepted}");
 }

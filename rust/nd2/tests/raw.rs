@@ -70,6 +70,10 @@ fn a_summary_that_is_not_of_its_layout_is_refused_by_every_call() {
         table.fill(LENT);
         assert_eq!(raw::channels(&file, summary, &mut table, &mut row), 20);
         assert!(is_zero(&table) && is_zero(&row));
+        let mut picometres = u64::MAX;
+        table.fill(LENT);
+        let number = raw::picometres(&file, summary, &mut table, &mut picometres);
+        assert!((number, picometres) == (20, 0) && is_zero(&table));
     }
 }
 
@@ -107,6 +111,23 @@ fn later_bytes_are_left_alone_or_cleared() {
         raw::channels(&file, &summary, &mut table, &mut row[..CHANNEL_BYTES]),
         19
     );
+}
+
+#[test]
+fn picometres_take_the_table_and_leave_it_zero() {
+    let file = roller(2, 3, 2, 4, 4);
+    let summary = opened(&file);
+    for (bytes, expected) in [
+        (2 * ENTRY_BYTES, (0, 325_000)),
+        (2 * ENTRY_BYTES + 7, (0, 325_000)),
+        (2 * ENTRY_BYTES - 1, (18, 0)),
+        (0, (18, 0)),
+    ] {
+        let (mut table, mut picometres) = (vec![LENT; bytes], u64::MAX);
+        let number = raw::picometres(&file, &summary, &mut table, &mut picometres);
+        assert_eq!((number, picometres), expected, "{bytes}");
+        assert!(is_zero(&table));
+    }
 }
 
 #[test]

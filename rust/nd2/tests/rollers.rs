@@ -38,6 +38,7 @@ fn the_summary_says_what_was_written() {
         (State::Stated, Some((0.325, 0.325)))
     );
     assert_eq!(summary.z_step, ZStep::Stated(0.5));
+    assert_eq!(reader.picometres(), Ok(325_000));
 }
 
 #[test]

@@ -81,9 +81,24 @@ fn channels(file: &[u8], summary: &Summary, laid: &[u8], what: &str) -> usize {
     around(second, proved, what)
 }
 
+/// The picometres are held against each other too.
+fn picometres(file: &[u8], summary: &Summary, laid: &[u8], what: &str) -> usize {
+    let second = |len| answer(len, |table| second::picometres(file, summary, table).0);
+    let proved = |len| {
+        answer(len, |table| {
+            let mut picometres = u64::MAX;
+            let number = raw::picometres(file, laid, table, &mut picometres);
+            let expected = second::picometres(file, summary, &mut vec![0; table.len()]);
+            assert_eq!((number, picometres), expected, "{what}");
+            number
+        })
+    };
+    around(second, proved, what)
+}
+
 #[test]
 fn every_length_around_what_is_needed() {
-    let (mut opened, mut read) = (0, 0);
+    let (mut opened, mut read, mut sized) = (0, 0, 0);
     for seed in 0..FILES {
         let file = random::file(seed);
         let what = format!("seed {seed}");
@@ -98,9 +113,10 @@ fn every_length_around_what_is_needed() {
         );
         read += trees(&file, &summary, &laid, &what);
         read += channels(&file, &summary, &laid, &what);
+        sized += picometres(&file, &summary, &laid, &what);
     }
     assert!(
-        opened > 10_000 && read > 10_000,
-        "{opened} and {read} lengths"
+        opened > 10_000 && read > 10_000 && sized > 5_000,
+        "{opened}, {read} and {sized} lengths"
     );
 }
