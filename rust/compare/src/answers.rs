@@ -1,5 +1,6 @@
 //! What a reader answers about one file, with every lent byte.
 
+use crate::picometres::Size;
 use crate::reader::Reader;
 use crate::sheets::Read;
 use plan::{Plan, MOST_FRAMES, TREES};
@@ -39,6 +40,7 @@ pub struct Strange {
     pub tree: Lent,
     pub channels: Row,
     pub register: Lent,
+    pub picometres: Size,
 }
 
 /// What a reader answers. `short` are the same calls with one byte, record or entry too few, or with few entries.
@@ -63,7 +65,9 @@ pub struct Answers {
     pub short_reads: Vec<Read>,
     /// What was written, damaged and then read.
     pub damaged: Vec<Read>,
-    pub wild: Vec<[u32; 5]>,
+    pub picometres: Size,
+    pub small_picometres: Size,
+    pub wild: Vec<[u32; 6]>,
     pub strange: Vec<Strange>,
     /// Lent bytes that were touched or not cleared against the rules.
     pub faults: Vec<String>,
@@ -115,6 +119,7 @@ impl Answers {
             ("lent bytes", self.faults == other.faults),
         ];
         let same = same.into_iter().chain(self.same_sheets(other));
+        let same = same.chain(self.same_picometres(other));
         let differing = same.filter(|(_, same)| !same);
         let told = |(call, _)| format!("{call}: other answers than the first reader's");
         differing.map(told).collect()
@@ -159,6 +164,7 @@ pub fn asked(reader: &dyn Reader, file: &[u8], plan: &Plan, scratch: &mut Scratc
     asking.trees();
     asking.channels();
     asking.register();
+    asking.picometres();
     asking.wild();
     asking.strange();
     asking.answers
@@ -188,14 +194,30 @@ impl Asking<'_> {
         self.scratch.table.resize(len, FILL);
     }
 
+    /// The bytes of a table with few entries.
+    pub fn small_room(&self) -> usize {
+        self.plan.room * ENTRY_BYTES + self.plan.spare
+    }
+
     fn small_table(&mut self) {
-        self.table(self.plan.room * ENTRY_BYTES + self.plan.spare);
+        self.table(self.small_room());
     }
 
     pub fn fault(&mut self, right: bool, what: &str) {
         if !right {
             self.answers.faults.push(what.to_string());
         }
+    }
+
+    /// The pixel size with a table of so many bytes, which is zero afterwards in any case; a refusal says 0.
+    pub fn sized(&mut self, summary: &Summary, len: usize, call: &str) -> Size {
+        self.table(len);
+        let table = &mut self.scratch.table;
+        let (number, picometres) = self.reader.picometres(self.file, summary, table);
+        self.table_is_zero(call);
+        let right = number == 0 || picometres == 0;
+        self.fault(right, &format!("{call}: refused, and not 0 picometres"));
+        (number, picometres)
     }
 
     fn table_is_zero(&mut self, call: &str) {
@@ -364,12 +386,14 @@ impl Asking<'_> {
                 bytes: records,
             };
             let (tree, channels) = self.strange_tables(summary);
+            let picometres = self.sized(summary, self.plan.table, "picometres, strange summary");
             self.answers.strange.push(Strange {
                 plane,
                 sheet,
                 tree,
                 channels,
                 register,
+                picometres,
             });
         }
     }
@@ -396,7 +420,7 @@ impl Asking<'_> {
         (Lent { number, bytes }, channels)
     }
 
-    /// The five calls that take a summary, with summaries that are refused.
+    /// The six calls that take a summary, with summaries that are refused.
     fn wild(&mut self) {
         for summary in &self.plan.wild {
             let mut bytes = vec![FILL; 64];
@@ -415,7 +439,9 @@ impl Asking<'_> {
             let table = &mut self.scratch.table;
             let channels = self.reader.channels(self.file, summary, table, &mut row);
             self.table_is_zero("channels, refused summary");
-            let numbers = [plane, tree, channels, register, sheet];
+            let small = self.small_room();
+            let (picometres, _) = self.sized(summary, small, "picometres, refused summary");
+            let numbers = [plane, tree, channels, register, sheet, picometres];
             self.answers.wild.push(numbers);
         }
     }

@@ -48,6 +48,8 @@ pub struct Findings {
     pub channels: Channels,
     /// How many sheets have the samples of the original's planes.
     pub sheets: u64,
+    /// The number that the pixel size gave, where it was held against the original's.
+    pub size: Option<u32>,
 }
 
 /// Whether a file's channels were held against the original's, in which every plane record stands for one component.
@@ -85,9 +87,10 @@ impl Check<'_> {
         self.trees();
         self.channels();
         self.register();
+        self.picometres();
         self.tables();
         for numbers in &self.answers.wild {
-            self.same("refused summary", numbers, &[SUMMARY; 5]);
+            self.same("refused summary", numbers, &[SUMMARY; 6]);
         }
     }
 

@@ -1,16 +1,18 @@
 //! Holds readers against the original on random files.
 //!
-//!     compare ORIGINAL_FOLDER [--files N] [--seed S] [--corners]
+//!     compare ORIGINAL_FOLDER [--files N] [--seed S] [--corners] [--sizes N]
 //!
 //! ORIGINAL_FOLDER has the original's nd2_reader.rs, calibration.rs, types.rs and guard.rs. File i of a run is the one
-//! of seed S + i; with --corners, files at the limits come before them, which take time and memory. Differences that
-//! docs/DIFFERENCES.md lists are counted; any other is printed with its seed, its file is saved, and the exit status
-//! is 1.
+//! of seed S + i; with --corners, files at the limits come before them, which take time and memory. With --sizes, files
+//! of single pixel sizes come last: doubles by name, those around each power of two, and N at random from seed S.
+//! Differences that docs/DIFFERENCES.md lists are counted; any other is printed with its seed, its file is saved, and
+//! the exit status is 1.
 
 mod answers;
 mod check;
 mod numbers;
 mod original;
+mod picometres;
 mod proved;
 mod reader;
 mod run;
@@ -22,6 +24,7 @@ mod wire;
 
 use original::Original;
 use run::{Case, Run};
+use sample::{pixel, Rng};
 use std::io;
 use std::path::{Path, PathBuf};
 use std::process::ExitCode;
@@ -32,6 +35,7 @@ struct Options {
     files: u64,
     seed: u64,
     corners: bool,
+    sizes: Option<u64>,
 }
 
 fn options() -> Option<Options> {
@@ -41,6 +45,7 @@ fn options() -> Option<Options> {
         files: 20_000,
         seed: 1,
         corners: false,
+        sizes: None,
     };
     while let Some(argument) = arguments.next() {
         let mut value = || arguments.next()?.parse().ok();
@@ -48,10 +53,20 @@ fn options() -> Option<Options> {
             "--files" => options.files = value()?,
             "--seed" => options.seed = value()?,
             "--corners" => options.corners = true,
+            "--sizes" => options.sizes = Some(value()?),
             _ => return None,
         }
     }
     Some(options)
+}
+
+/// The pixel sizes that are asked: doubles by name, those around each power of two, and so many at random.
+fn sizes(seed: u64, random: u64) -> Vec<u64> {
+    let rng = &mut Rng::new(seed);
+    let mut all: Vec<u64> = pixel::DOUBLES.iter().map(|(_, bits)| *bits).collect();
+    all.extend(pixel::powers());
+    all.extend((0..random).map(|_| pixel::random(rng)));
+    all
 }
 
 /// Builds the original in `folder` and compares all files.
@@ -67,12 +82,19 @@ fn compared(options: &Options, folder: &Path) -> io::Result<Tally> {
     for seed in options.seed..options.seed + options.files {
         run.case(&Case::seeded(seed))?;
     }
+    if let Some(random) = options.sizes {
+        let sizes = sizes(options.seed, random);
+        println!("{} files of single pixel sizes", sizes.len());
+        for bits in sizes {
+            run.case(&Case::sized(bits))?;
+        }
+    }
     Ok(run.tally)
 }
 
 fn main() -> ExitCode {
     let Some(options) = options() else {
-        eprintln!("compare ORIGINAL_FOLDER [--files N] [--seed S] [--corners]");
+        eprintln!("compare ORIGINAL_FOLDER [--files N] [--seed S] [--corners] [--sizes N]");
         return ExitCode::from(2);
     };
     let folder = std::env::temp_dir().join(format!("compare-original-{}", std::process::id()));

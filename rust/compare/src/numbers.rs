@@ -51,7 +51,7 @@ pub fn number(message: &str) -> Option<u32> {
 }
 
 /// The trade words, number 1 first.
-pub const WORDS: [&str; 27] = [
+pub const WORDS: [&str; 28] = [
     "foreign",
     "legacy",
     "tail",
@@ -79,4 +79,5 @@ pub const WORDS: [&str; 27] = [
     "buffer",
     "sheet long",
     "sheet layout",
+    "size range",
 ];

@@ -150,4 +150,10 @@ impl Reader for Proved {
             bits,
         })
     }
+
+    fn picometres(&self, file: &[u8], summary: &Summary, table: &mut [u8]) -> (u32, u64) {
+        let mut picometres = u64::MAX;
+        let number = raw::picometres(file, &laid(summary), table, &mut picometres);
+        (number, picometres)
+    }
 }

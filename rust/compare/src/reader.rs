@@ -33,6 +33,9 @@ pub trait Reader {
 
     /// What a sheet says.
     fn read_sheet(&self, sheet: &[u8], samples: &mut [u8]) -> Result<Sheet, u32>;
+
+    /// The pixel size: a number, and the picometres.
+    fn picometres(&self, file: &[u8], summary: &Summary, table: &mut [u8]) -> (u32, u64);
 }
 
 /// The second implementation.
@@ -82,6 +85,10 @@ impl Reader for Second {
 
     fn read_sheet(&self, sheet: &[u8], samples: &mut [u8]) -> Result<Sheet, u32> {
         second::read_sheet(sheet, samples)
+    }
+
+    fn picometres(&self, file: &[u8], summary: &Summary, table: &mut [u8]) -> (u32, u64) {
+        second::picometres(file, summary, table)
     }
 }
 

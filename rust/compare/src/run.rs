@@ -37,6 +37,16 @@ impl Case {
         }
     }
 
+    /// The file whose pixel size is this double.
+    pub fn sized(bits: u64) -> Case {
+        Case {
+            label: format!("size-{bits:016x}"),
+            seed: bits,
+            file: sample::pixel::with_double(bits),
+            every_plane: false,
+        }
+    }
+
     pub fn corner(name: &str, file: Vec<u8>) -> Case {
         Case {
             label: name.to_string(),
@@ -119,6 +129,7 @@ impl Run {
                     self.tally.listed(&mut findings.listed);
                     self.tally.channels(findings.channels);
                     self.tally.sheets += findings.sheets;
+                    self.tally.size(findings.size);
                     first = Some(answers);
                 }
             }

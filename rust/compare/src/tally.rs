@@ -3,10 +3,19 @@
 use crate::answers::{Answers, Strange};
 use crate::check::{Channels, Listed};
 use crate::numbers::WORDS;
+use second::refusal::SIZE_RANGE;
 use std::collections::BTreeMap;
 
-const CALLS: [&str; 8] = [
-    "open", "plane", "border", "tree", "channels", "register", "sheet", "read",
+const CALLS: [&str; 9] = [
+    "open",
+    "plane",
+    "border",
+    "tree",
+    "channels",
+    "register",
+    "sheet",
+    "read",
+    "picometres",
 ];
 /// 0, and every refusal.
 const NUMBERS: usize = WORDS.len() + 1;
@@ -27,8 +36,12 @@ pub struct Tally {
     empty_channels: u64,
     told_channels: u64,
     left_out_channels: u64,
+    /// Pixel sizes that were held against the original's: with picometres, with too many of them, without a size.
+    sized: u64,
+    passing_sizes: u64,
+    no_sizes: u64,
     listed: BTreeMap<Listed, u64>,
-    hits: [[u64; 8]; NUMBERS],
+    hits: [[u64; 9]; NUMBERS],
 }
 
 impl Tally {
@@ -70,6 +83,16 @@ impl Tally {
         }
     }
 
+    /// Counts what a file's pixel size gave, where it was held against the original's.
+    pub fn size(&mut self, number: Option<u32>) {
+        match number {
+            None => {}
+            Some(0) => self.sized += 1,
+            Some(SIZE_RANGE) => self.passing_sizes += 1,
+            Some(_) => self.no_sizes += 1,
+        }
+    }
+
     /// The numbers that no file gave.
     pub fn missing(&self) -> Vec<usize> {
         let given = |number: &usize| self.hits[*number].iter().any(|&n| n > 0);
@@ -78,11 +101,11 @@ impl Tally {
 
     pub fn print(&self) {
         println!("files by number and call:");
-        let heads: Vec<String> = CALLS.iter().map(|call| format!("{call:>9}")).collect();
+        let heads: Vec<String> = CALLS.iter().map(|call| format!("{call:>11}")).collect();
         println!("{:>2} {:<12}{}", "", "", heads.concat());
         for (number, calls) in self.hits.iter().enumerate() {
             let word = number.checked_sub(1).map_or("accepted", |i| WORDS[i]);
-            let counts: Vec<String> = calls.iter().map(|n| format!("{n:>9}")).collect();
+            let counts: Vec<String> = calls.iter().map(|n| format!("{n:>11}")).collect();
             println!("{number:>2} {word:<12}{}", counts.concat());
         }
         for one in Listed::ALL {
@@ -101,6 +124,10 @@ impl Tally {
         println!(
             "sheets with the samples of the original's planes, read back: {}; damaged and read: {}, {} of them taken",
             self.sheets, self.damaged_sheets, self.taken_sheets
+        );
+        println!(
+            "pixel sizes held against the original's: {} files, {} of them past 2^64 - 1 picometres; without one: {}",
+            self.sized + self.passing_sizes, self.passing_sizes, self.no_sizes
         );
         let missing = self.missing();
         if !missing.is_empty() {
@@ -126,7 +153,7 @@ impl Tally {
 }
 
 /// The numbers of each call, in the order of `CALLS`.
-fn numbers(a: &Answers) -> [Vec<u32>; 8] {
+fn numbers(a: &Answers) -> [Vec<u32>; 9] {
     let open = [a.open, a.small_open].into_iter().flatten();
     let planes = a.planes.iter().map(|l| l.number);
     let trees = a.trees.iter().chain(&a.small_trees).map(|l| l.number);
@@ -165,7 +192,15 @@ fn numbers(a: &Answers) -> [Vec<u32>; 8] {
             .collect(),
         sheets(a),
         reads(a),
+        picometres(a),
     ]
+}
+
+fn picometres(a: &Answers) -> Vec<u32> {
+    let own = [a.picometres.0, a.small_picometres.0];
+    let wild = a.wild.iter().map(|numbers| numbers[5]);
+    let strange = a.strange.iter().map(|s| s.picometres.0);
+    own.into_iter().chain(wild).chain(strange).collect()
 }
 
 fn sheets(a: &Answers) -> Vec<u32> {

@@ -372,3 +372,27 @@ fn map_and_chunk() {
     };
     assert_eq!(lent(&renamed, &summary, 0), MISSING);
 }
+
+/// Random files give each number that the call has, but for 20; with these summaries there is none.
+#[test]
+fn random_files() {
+    let mut counts = [0; 29];
+    for seed in 0..4000 {
+        let file = sample::random::file(seed);
+        let Ok(map) = second::map::place(&file) else {
+            continue;
+        };
+        let (_, probe) = bare(&[]);
+        let summary = Summary { map, ..probe };
+        let table = if seed % 8 == 0 {
+            ENTRY_BYTES
+        } else {
+            1000 * ENTRY_BYTES
+        };
+        let answer = lent(&file, &summary, table);
+        counts[answer.err().unwrap_or(0) as usize] += 1;
+    }
+    let given: Vec<usize> = (0..29).filter(|&number| counts[number] > 0).collect();
+    assert_eq!(given, [0, 4, 5, 6, 7, 8, 9, 10, 11, 18, 28]);
+    assert!(counts[0] > 1000 && counts[28] > 100, "{counts:?}");
+}
