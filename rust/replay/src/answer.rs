@@ -1,7 +1,7 @@
 //! What the second implementation answers: a line for each question, of the call's name, its number and a checksum of
-//! every lent byte afterwards, an opening's with the numbers of its summary before them, and a sheet's, where one is read,
-//! with its width, height and bits as u64. A row of channels is bytes, as in the C interface: as many records of seven
-//! u64 as fit, zeros behind them.
+//! every lent byte afterwards, an opening's with the numbers of its summary before them, a sheet's, where one is read,
+//! with its width, height and bits as u64, and a pixel size's with its picometres as u64. A row of channels is bytes,
+//! as in the C interface: as many records of seven u64 as fit, zeros behind them.
 
 use crate::step::{numbers, Step};
 use second::{Channel, Summary};
@@ -85,6 +85,7 @@ impl State {
             Step::Channels { table, buffer } => return Some(self.channels(*table, *buffer)),
             Step::Sheet { at, buffer } => return Some(self.sheet(*at, *buffer)),
             Step::ReadSheet { sheet, buffer } => return Some(read_sheet(sheet, *buffer)),
+            Step::Picometres { table } => return Some(self.picometres(*table)),
         }
         None
     }
@@ -135,6 +136,12 @@ impl State {
         let [scene, t, c, z] = at;
         let number = second::read_plane(&self.file, &mut table, scene, t, c, z, &mut samples);
         Answer::new("border", number, &[&table, &samples])
+    }
+
+    fn picometres(&self, table: usize) -> Answer {
+        let mut table = lent(table);
+        let (number, picometres) = second::picometres(&self.file, &self.summary, &mut table);
+        Answer::new("picometres", number, &[&picometres.to_le_bytes(), &table])
     }
 
     fn channels(&self, table: usize, buffer: usize) -> Answer {

@@ -3,7 +3,7 @@
 use crate::answer::State;
 use crate::questions::{about, all, channels_of};
 use crate::step::Step;
-use crate::{rules, sheets, whole};
+use crate::{pixel, rules, sheets, whole};
 use sample::parts::{self, Sizes};
 use sample::{Nd2, Roller};
 use second::sheets::HEAD_BYTES;
@@ -30,6 +30,7 @@ pub fn steps() -> Vec<Step> {
     steps.extend(random_files());
     steps.extend(sheets::all());
     steps.extend(whole::all());
+    steps.extend(pixel::all());
     steps
 }
 
@@ -58,8 +59,8 @@ fn random_files() -> Vec<Step> {
         let before = alike.entry(refused).or_insert(0);
         let few = refused.is_none() || *before < MOST_ALIKE;
         let mut given = given(&steps);
-        // no file is taken for its sheets: these are refused as its planes are
-        given.retain(|(call, _)| *call != "sheet");
+        // no file is taken for its sheets or its pixel size: these are refused as its planes and its trees are
+        given.retain(|(call, _)| !["sheet", "picometres"].contains(call));
         if files < FILES && len <= MOST_COMMON && few || !given.is_subset(&seen) {
             *before += 1;
             seen.extend(given);

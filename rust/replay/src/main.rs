@@ -6,12 +6,13 @@
 //!
 //! The list is made from seeds alone, so it is the same in every run: document 01's edges, files of single rules, small
 //! rollers with all their planes, files whose plane records cover several components, random files, good and damaged,
-//! sheets, good and damaged, and every field that is read as a whole number with doubles at the limits (`list`, `rules`,
-//! `sheets` and `whole` say which, `questions` what is asked about files, `step` how it is stored). A change of `sample` or
-//! of `plan` changes it: write it anew.
+//! sheets, good and damaged, every field that is read as a whole number with doubles at the limits, and pixel sizes
+//! (`list`, `rules`, `sheets`, `whole` and `pixel` say which, `questions` what is asked about files, `step` how it is
+//! stored). A change of `sample` or of `plan` changes it: write it anew.
 
 mod answer;
 mod list;
+mod pixel;
 mod questions;
 mod rules;
 mod sheets;
@@ -19,7 +20,7 @@ mod step;
 mod whole;
 
 use answer::State;
-use second::refusal::{SHEET_LAYOUT, SHEET_LONG};
+use second::refusal::{SHEET_LONG, SIZE_RANGE};
 use std::collections::BTreeSet;
 use std::path::PathBuf;
 use std::process::ExitCode;
@@ -80,7 +81,7 @@ impl Stored {
 fn missing(steps: &[Step]) -> Vec<u32> {
     let mut given: BTreeSet<u32> = list::given(steps).into_iter().map(|(_, n)| n).collect();
     given.insert(SHEET_LONG);
-    (0..=SHEET_LAYOUT).filter(|n| !given.contains(n)).collect()
+    (0..=SIZE_RANGE).filter(|n| !given.contains(n)).collect()
 }
 
 /// What is wrong with a stored list, whose steps would be `steps` if it were written now.
@@ -129,7 +130,7 @@ mod tests {
     use super::*;
 
     /// The stored list is the one that would be written, and has every number; a sheet is written with each that a plane
-    /// gives, and read with each of its own.
+    /// gives, and read with each of its own; a pixel size has each of its own.
     #[test]
     fn stored() {
         let steps = list::steps();
@@ -141,6 +142,8 @@ mod tests {
         };
         assert_eq!(numbers("sheet"), numbers("plane"));
         assert_eq!(numbers("read"), [0, 25, 27]);
+        let sizes = [0, 4, 5, 6, 7, 8, 9, 10, 11, 18, 20, 28];
+        assert_eq!(numbers("picometres"), sizes);
         assert_eq!(fault(&Stored::read().unwrap(), &steps), None);
     }
 
@@ -153,6 +156,25 @@ mod tests {
         assert!(
             after("65,537 by 65,536 bytes gives 22").is_some_and(|l| l.starts_with("plane 22 "))
         );
+    }
+
+    /// Pixel sizes: the number under the label of a calibration.
+    #[test]
+    fn sizes() {
+        let text = lines(&list::steps());
+        let numbered = |label: &str, number: u32| {
+            let under = format!("\n{label}\npicometres {number} ");
+            assert!(text.contains(&under), "{label}");
+        };
+        numbered("dCalibration 0.1", 0);
+        numbered("dCalibration the largest below 2^64 picometres", 0);
+        numbered("dCalibration infinity", 28);
+        numbered("dCalibration -0.0", 11);
+        numbered("dCalibration true", 0);
+        numbered("dCalibration, then a text", 11);
+        numbered("a packed record", 8);
+        numbered("tables for a calibration of three entries", 18);
+        numbered("a calibration, its map cut, a summary that is refused", 0);
     }
 
     /// A list with one other number in it, or one other line, is found out.

@@ -41,6 +41,10 @@ fn for_channels(file: &[u8], summary: &Summary, row: usize) -> usize {
     least(|room| second::channels(file, summary, &mut table(room), &mut row.clone()))
 }
 
+pub fn for_picometres(file: &[u8], summary: &Summary) -> usize {
+    least(|room| second::picometres(file, summary, &mut vec![0; ENTRY_BYTES * room]).0)
+}
+
 /// A label and a file, opened with a table that is just large enough, or one byte short of it.
 fn opened(label: &str, file: Vec<u8>, spare: usize) -> Vec<Step> {
     let enough = for_open(&file);
@@ -123,10 +127,22 @@ fn with_map(rng: &mut Rng, file: &[u8], plan: &Plan) -> Vec<Step> {
     steps.extend(trees(rng, file, plan));
     steps.extend(channels(rng, file, plan));
     steps.extend(registers(&plan.summary, plan.spare));
+    steps.extend(picometres(file, &plan.summary));
     for &summary in &plan.strange {
         steps.push(Step::Summary(summary));
         steps.extend(any(summary));
         steps.push(any_sheet());
+        steps.push(any_picometres());
+    }
+    steps
+}
+
+/// The pixel size with a table that is just enough, and with one that has a byte less.
+fn picometres(file: &[u8], summary: &Summary) -> Vec<Step> {
+    let enough = for_picometres(file, summary);
+    let mut steps = vec![Step::Picometres { table: enough }];
+    if enough != UNUSED {
+        steps.push(Step::Picometres { table: enough - 1 });
     }
     steps
 }
@@ -274,15 +290,22 @@ fn any_sheet() -> Step {
     }
 }
 
-/// One of these, and a sheet, with a summary that is refused.
+/// A pixel size by a summary of which nothing is known.
+fn any_picometres() -> Step {
+    Step::Picometres {
+        table: 20 * ENTRY_BYTES,
+    }
+}
+
+/// One of these, a sheet and a pixel size, with a summary that is refused.
 fn wild(rng: &mut Rng, plan: &Plan) -> Vec<Step> {
     let Some(&summary) = plan.wild.first() else {
         return Vec::new();
     };
     let one = rng.pick(&[0, 1, 2, 3]);
     let call = any(summary).into_iter().nth(one);
-    [Some(Step::Summary(summary)), call, Some(any_sheet())]
-        .into_iter()
-        .flatten()
-        .collect()
+    let mut steps = vec![Step::Summary(summary)];
+    steps.extend(call);
+    steps.extend([any_sheet(), any_picometres()]);
+    steps
 }

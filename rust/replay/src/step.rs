@@ -54,6 +54,9 @@ pub enum Step {
         sheet: Vec<u8>,
         buffer: usize,
     },
+    Picometres {
+        table: usize,
+    },
 }
 
 /// The numbers before what follows a step.
@@ -155,6 +158,7 @@ impl Step {
                 sheet: rest,
                 buffer,
             },
+            12 => Step::Picometres { table },
             _ => return None,
         })
     }
@@ -172,6 +176,7 @@ impl Step {
             Step::Channels { table, buffer } => (9, table, buffer, [0; 4]),
             Step::Sheet { at, buffer } => (10, 0, buffer, at),
             Step::ReadSheet { buffer, .. } => (11, 0, buffer, [0; 4]),
+            Step::Picometres { table } => (12, table, 0, [0; 4]),
         };
         Head {
             kind,
