@@ -19,9 +19,9 @@ Exit status: 0 all was done, 1 something was refused or failed, 2 wrong usage.
 pub const INFO: &str = "\
 usage: nd2 info FILE [--json]
 
-Prints the sizes of the frames, the loops (the outermost first), the size of a pixel, the channels (one for each
-component; those that one plane record covers are equal), and how many frames of the loops are in the file and how many
-are absent.
+Prints the sizes of the frames, the loops (the outermost first), the size of a pixel in micrometres and in whole
+picometres, the channels (one for each component; those that one plane record covers are equal), and how many frames of
+the loops are in the file and how many are absent.
 
   --json    the same as one JSON object
 ";

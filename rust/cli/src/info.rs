@@ -3,7 +3,7 @@
 use crate::arguments::Arguments;
 use crate::failure::{Done, Failure};
 use crate::{json, open, text};
-use nd2::{Axis, Channel, Loop, Reader, State, Summary, ZStep};
+use nd2::{Axis, Channel, Loop, Reader, Refusal, State, Summary, ZStep};
 use std::ffi::OsStr;
 use std::io::{self, Write};
 
@@ -14,6 +14,8 @@ struct Info<'f> {
     path: &'f OsStr,
     bytes: usize,
     summary: &'f Summary,
+    /// The size of a pixel in picometres, if it has a number of them.
+    picometres: Option<u64>,
     channels: Vec<Channel>,
     /// How many frames the map has, if they were looked up.
     present: Option<u64>,
@@ -49,9 +51,19 @@ fn gathered<'f>(path: &'f OsStr, reader: &'f Reader) -> Result<Info<'f>, Failure
         path,
         bytes: reader.bytes().len(),
         summary,
+        picometres: picometres(reader).map_err(refused("pixel size"))?,
         channels: reader.channels().map_err(refused("channels"))?,
         present,
     })
+}
+
+/// None where no size is stated or read, and where it has too many picometres; the summary tells which.
+fn picometres(reader: &Reader) -> Result<Option<u64>, Refusal> {
+    match reader.picometres() {
+        Ok(picometres) => Ok(Some(picometres)),
+        Err(Refusal::TABLE) => Err(Refusal::TABLE),
+        Err(_) => Ok(None),
+    }
 }
 
 fn axis_name(axis: Axis) -> &'static str {
@@ -104,9 +116,16 @@ impl Info<'_> {
 
     fn pixel_size(&self) -> String {
         match (self.summary.pixel_size, self.summary.state) {
-            (Some((x, y)), _) => format!("{x} x {y} micrometres"),
+            (Some((x, y)), _) => format!("{x} x {y} micrometres ({})", self.in_picometres()),
             (None, State::Packed) => "in a packed tree, not read".to_string(),
             (None, _) => "not stated".to_string(),
+        }
+    }
+
+    fn in_picometres(&self) -> String {
+        match self.picometres {
+            Some(picometres) => format!("{picometres} picometres"),
+            None => format!("over {} picometres", u64::MAX),
         }
     }
 
@@ -142,6 +161,7 @@ impl Info<'_> {
             ("loops", json::array(s.loops.iter().map(one))),
             ("calibration", json::string(calibration(s.state))),
             ("pixel_size", pixel_size_json(s)),
+            ("picometres", json::or_null(self.picometres)),
             ("z_step", z_step_json(s.z_step)),
             (
                 "channels",

@@ -6,7 +6,7 @@ use common::json::{parse, Json};
 use common::Folder;
 use sample::parts::Plane;
 use sample::roller::sample;
-use sample::{parts, tree, Nd2, Roller};
+use sample::{parts, pixel, tree, Nd2, Roller};
 
 fn small() -> Roller {
     Roller {
@@ -37,7 +37,7 @@ fn info_tells_sizes_loops_and_channels() {
     for part in [
         "5 x 4 samples of 16 bits",
         "3 points, then 2 focus steps",
-        "0.325 x 0.325 micrometres",
+        "pixel size  0.325 x 0.325 micrometres (325000 picometres)\n",
         "0.5 micrometres",
         "lamp 0, #ff0000",
         "lamp 1, #00ff00",
@@ -64,6 +64,7 @@ fn info_as_json_is_json_and_tells_the_same() {
         &Json::Number(2.0)
     );
     assert_eq!(json.get("pixel_size").items()[0], Json::Number(0.325));
+    assert_eq!(json.get("picometres"), &Json::Number(325_000.0));
     assert_eq!(
         json.get("channels").items()[1].get("name"),
         &Json::Text("lamp 1".into())
@@ -92,11 +93,66 @@ fn json_is_valid_whatever_names_and_sizes_are() {
     let json = parse(&told).expect("valid JSON");
     assert_eq!(json.get("file"), &Json::Text("a\"b\\.nd2".into()));
     assert_eq!(json.get("pixel_size").items(), [Json::Null, Json::Null]);
+    assert_eq!(json.get("picometres"), &Json::Null);
     let channels = json.get("channels").items();
     assert_eq!(channels[0].get("name"), &Json::Text(name.into()));
     assert_eq!(channels[1].get("name"), &Json::Null);
     assert_eq!(channels[2].get("color"), &Json::Null);
     assert_eq!(json.get("absent"), &Json::Number(1.0));
+}
+
+/// What info says of the pixel size of a file with this calibration, and its picometres in JSON.
+fn pixel_size(calibration: &tree::Record) -> (String, String) {
+    let folder = Folder::new();
+    folder.write("a.nd2", &pixel::calibrated(calibration));
+    let told = folder.run(&["info", "a.nd2"]).fine();
+    let json = folder.run(&["info", "--json", "a.nd2"]).fine();
+    assert!(parse(&json).is_some(), "{json}");
+    let after = |text: &str, start: &str, end: char| {
+        let rest = text.split_once(start).map(|(_, rest)| rest);
+        rest.and_then(|rest| rest.split(end).next())
+            .map(str::to_string)
+    };
+    let line = after(&told, "pixel size  ", '\n');
+    let number = after(&json, "\"picometres\": ", ',');
+    (line.unwrap(), number.unwrap())
+}
+
+#[test]
+fn info_tells_picometres() {
+    let limit = f64::from_bits(pixel::LIMIT);
+    let above = f64::from_bits(pixel::LIMIT + 1);
+    let over = "over 18446744073709551615 picometres";
+    for (size, micrometres, picometres, json) in [
+        (0.1625, "0.1625", "162500 picometres", "162500"),
+        (0.0078125, "0.0078125", "7812 picometres", "7812"),
+        (1e-7, "0.0000001", "0 picometres", "0"),
+        (
+            limit,
+            "18446744000000",
+            "18446744073709550781 picometres",
+            "18446744073709550781",
+        ),
+        (above, "18446744000000", over, "null"),
+        (f64::INFINITY, "inf", over, "null"),
+    ] {
+        let (line, number) = pixel_size(&parts::calibration(size));
+        let expected = format!("{micrometres} x {micrometres} micrometres ({picometres})");
+        assert_eq!((line, number.as_str()), (expected, json));
+    }
+}
+
+#[test]
+fn info_tells_where_no_size_is() {
+    let none = |calibration: tree::Record, expected: &str| {
+        let (line, number) = pixel_size(&calibration);
+        assert_eq!((line.as_str(), number.as_str()), (expected, "null"));
+    };
+    for size in [0.0, -0.325, f64::NAN] {
+        none(parts::calibration(size), "not stated");
+    }
+    none(tree::level("SLxCalibration", Vec::new()), "not stated");
+    none(tree::packed(&[0; 12]), "in a packed tree, not read");
 }
 
 #[test]
@@ -311,6 +367,7 @@ fn the_sample_is_a_whole_roller() {
     );
     let info = folder.run(&["info", "s.nd2"]).fine();
     assert!(info.contains("24 points, then 11 focus steps"), "{info}");
+    assert!(info.contains("(325000 picometres)"), "{info}");
 }
 
 #[test]
