@@ -52,13 +52,20 @@ pub fn large_map(entries: usize) -> Vec<u8> {
 /// The chunk of `deep`.
 pub const DEEP: &str = "Deep!";
 
-/// A file that has a tree of as many levels as are read.
+/// So many levels, one in another.
+fn levels(count: usize) -> Record {
+    (0..count).fold(u32("", 1), |record, _| level("", vec![record]))
+}
+
+/// A file that has a tree of as many levels as are read, and a calibration of as many.
 pub fn deep() -> Vec<u8> {
-    let inner = |record, _| level("", vec![record]);
-    let tree = (0..64).fold(u32("", 1), inner);
+    let mut calibration = parts::calibration(0.325);
+    if let Some(level) = calibration.level_mut() {
+        level.records.push(levels(63));
+    }
     let mut file = needed(Sizes::packed(4, 4, 2, 16), &[]);
-    file.add(DEEP, &tree.encode());
-    file.add(parts::CALIBRATION, &parts::calibration(0.325).encode());
+    file.add(DEEP, &levels(64).encode());
+    file.add(parts::CALIBRATION, &calibration.encode());
     let lamp = Plane::new("lamp", 255);
     file.add(parts::CHANNELS, &parts::channels(&[lamp]).encode());
     file.add(&parts::frame_name(0), &parts::frame(&[7; 64]));

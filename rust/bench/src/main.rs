@@ -246,7 +246,7 @@ impl Memory {
         }
         match &self.stack {
             Ok(bytes) => {
-                println!("  stack     {bytes} bytes in the eight calls, on a tree of 64 levels too")
+                println!("  stack     {bytes} bytes in the nine calls, on a tree of 64 levels too")
             }
             Err(error) => println!("  stack     {error}"),
         }
@@ -261,6 +261,7 @@ fn all_calls(file: &[u8]) -> impl FnMut() + '_ {
         assert_eq!(reader.tree(files::DEEP).expect("a tree").len(), 65);
         let mut samples = reader.plane(0, 0, 1, 0).expect("a plane");
         assert!(reader.channels().is_ok() && reader.register().is_ok());
+        assert_eq!(reader.picometres(), Ok(325_000));
         let sheet = reader.sheet(0, 0, 1, 0).expect("a sheet");
         assert_eq!(Sheet::read(&sheet).expect("a sheet").samples, samples);
         assert_eq!(read_plane(file, &mut table, [0, 0, 1, 0], &mut samples), 0);

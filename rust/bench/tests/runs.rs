@@ -38,7 +38,7 @@ fn every_case_is_in_the_table() {
         "walk 20 names, each a level",
         "0.5 x original: not run",
         " missed, 4 not run (they need the original).",
-        "bytes in the eight calls, on a tree of 64 levels",
+        "bytes in the nine calls, on a tree of 64 levels",
     ] {
         assert!(told.contains(part), "{part:?} is not in {told}");
     }
