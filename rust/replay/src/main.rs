@@ -161,7 +161,7 @@ mod tests {
     /// Pixel sizes: the number under the label of a calibration.
     #[test]
     fn sizes() {
-        let text = lines(&list::steps());
+        let text = format!("\n{}", lines(&pixel::all()));
         let numbered = |label: &str, number: u32| {
             let under = format!("\n{label}\npicometres {number} ");
             assert!(text.contains(&under), "{label}");
