@@ -4,7 +4,8 @@
 //!
 //! ORIGINAL_FOLDER has the original's nd2_reader.rs, calibration.rs, types.rs and guard.rs. File i of a run is the one
 //! of seed S + i; with --corners, files at the limits come before them, which take time and memory. With --sizes, files
-//! of single pixel sizes come last: doubles by name, those around each power of two, and N at random from seed S.
+//! of single pixel sizes come last: what is no double, doubles by name, those around each power of two, and N at random
+//! from seed S.
 //! Differences that docs/DIFFERENCES.md lists are counted; any other is printed with its seed, its file is saved, and
 //! the exit status is 1.
 
@@ -60,13 +61,20 @@ fn options() -> Option<Options> {
     Some(options)
 }
 
-/// The pixel sizes that are asked: doubles by name, those around each power of two, and so many at random.
-fn sizes(seed: u64, random: u64) -> Vec<u64> {
+/// Asks pixel sizes: what is no double, doubles by name, those around each power of two, and so many at random.
+fn sizes(run: &mut Run, seed: u64, random: u64) -> io::Result<()> {
     let rng = &mut Rng::new(seed);
-    let mut all: Vec<u64> = pixel::DOUBLES.iter().map(|(_, bits)| *bits).collect();
-    all.extend(pixel::powers());
-    all.extend((0..random).map(|_| pixel::random(rng)));
-    all
+    let mut doubles: Vec<u64> = pixel::DOUBLES.iter().map(|(_, bits)| *bits).collect();
+    doubles.extend(pixel::powers());
+    doubles.extend((0..random).map(|_| pixel::random(rng)));
+    let others = pixel::others();
+    println!(
+        "{} files of single pixel sizes",
+        doubles.len() + others.len()
+    );
+    let others = others.into_iter().map(Case::calibrated);
+    let doubles = doubles.into_iter().map(Case::sized);
+    others.chain(doubles).try_for_each(|case| run.case(&case))
 }
 
 /// Builds the original in `folder` and compares all files.
@@ -83,11 +91,7 @@ fn compared(options: &Options, folder: &Path) -> io::Result<Tally> {
         run.case(&Case::seeded(seed))?;
     }
     if let Some(random) = options.sizes {
-        let sizes = sizes(options.seed, random);
-        println!("{} files of single pixel sizes", sizes.len());
-        for bits in sizes {
-            run.case(&Case::sized(bits))?;
-        }
+        sizes(&mut run, options.seed, random)?;
     }
     Ok(run.tally)
 }

@@ -47,6 +47,16 @@ impl Case {
         }
     }
 
+    /// The file whose calibration has these records.
+    pub fn calibrated((label, records): sample::pixel::Stated) -> Case {
+        Case {
+            label: label.to_string(),
+            seed: 0,
+            file: sample::pixel::with(records),
+            every_plane: false,
+        }
+    }
+
     pub fn corner(name: &str, file: Vec<u8>) -> Case {
         Case {
             label: name.to_string(),

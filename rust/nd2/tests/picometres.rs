@@ -18,7 +18,7 @@ fn of_double(bits: u64) -> Result<u64, Refusal> {
 }
 
 fn of(record: Record) -> Result<u64, Refusal> {
-    of_file(&pixel::with(record))
+    of_file(&pixel::with(vec![record]))
 }
 
 fn of_size(size: f64) -> Result<u64, Refusal> {
@@ -153,7 +153,26 @@ fn a_calibration_of_many_records() {
     assert_eq!(of_file(&file), Ok(250_000));
 }
 
-/// Named doubles, those around each power of two, and random ones: what the second implementation gives.
+/// The value that a name has in the end.
+#[test]
+fn repeated_names() {
+    let of = |last: Record| of_file(&pixel::with(vec![f64(FIELD, 0.5), last]));
+    assert_eq!(of(f64(FIELD, 0.25)), Ok(250_000));
+    assert_eq!(of(f64(FIELD, f64::INFINITY)), RANGE);
+    assert_eq!(of(text(FIELD, "0.25")), MISSING);
+    assert_eq!(of(f64("dAspect", 0.25)), Ok(500_000));
+}
+
+/// What the second implementation gives for a file.
+fn second(file: &[u8]) -> Result<u64, u32> {
+    let summary = second::calls::opened(file, usize::MAX).unwrap();
+    match second::picometres(file, &summary, &mut [0; 960]) {
+        (0, picometres) => Ok(picometres),
+        (refused, _) => Err(refused),
+    }
+}
+
+/// Named doubles, those around each power of two, random ones, and what is no double.
 #[test]
 fn as_the_second_implementation() {
     let rng = &mut Rng::new(1);
@@ -161,14 +180,12 @@ fn as_the_second_implementation() {
     let random = (0..5_000).map(|_| pixel::random(rng));
     for bits in named.chain(pixel::powers()).chain(random) {
         let file = pixel::with_double(bits);
-        let summary = second::calls::opened(&file, usize::MAX).unwrap();
-        let (number, picometres) = second::picometres(&file, &summary, &mut [0; 960]);
-        let ours = of_double(bits).map_err(Refusal::number);
-        let expected = if number == 0 {
-            Ok(picometres)
-        } else {
-            Err(number)
-        };
-        assert_eq!(ours, expected, "{bits:x}");
+        let ours = of_file(&file).map_err(Refusal::number);
+        assert_eq!(ours, second(&file), "{bits:x}");
+    }
+    for (label, records) in pixel::others() {
+        let file = pixel::with(records);
+        let ours = of_file(&file).map_err(Refusal::number);
+        assert_eq!(ours, second(&file), "{label}");
     }
 }

@@ -4,17 +4,11 @@
 use crate::questions::for_picometres;
 use crate::step::Step;
 use sample::parts::{self, CALIBRATION};
-use sample::pixel::{DOUBLES, FIELD};
-use sample::tree::{
-    bytes, double_bits, f64, flag, i32, i64, level, list, packed, pointer, raw, text, u32, u64,
-    Record,
-};
+use sample::pixel::{others, DOUBLES, FIELD};
+use sample::tree::{double_bits, f64, level, packed, raw, u32, Record};
 use sample::Nd2;
 use second::trees::ENTRY_BYTES;
 use second::Summary;
-
-/// A label and what the calibration's level has.
-type Stated = (&'static str, Vec<Record>);
 
 /// A label and a calibration.
 type Told = (&'static str, Vec<u8>);
@@ -25,7 +19,7 @@ pub fn all() -> Vec<Step> {
         let calibration = calibration(vec![double_bits(FIELD, bits)]);
         steps.extend(asked(&format!("dCalibration {name}"), &calibration));
     }
-    for (label, records) in numbers().into_iter().chain(no_numbers()) {
+    for (label, records) in others() {
         steps.extend(asked(label, &calibration(records)));
     }
     for (label, calibration) in trees() {
@@ -83,43 +77,6 @@ fn asked(label: &str, calibration: &[u8]) -> Vec<Step> {
     let mut steps = about(label, file);
     steps.push(Step::Picometres { table });
     steps
-}
-
-fn numbers() -> Vec<Stated> {
-    let most = 18_446_744_073_709;
-    let one = |label, record| (label, vec![record]);
-    vec![
-        one("dCalibration 1, i32", i32(FIELD, 1)),
-        one("dCalibration -1, i32", i32(FIELD, -1)),
-        one("dCalibration 2^32 - 1, u32", u32(FIELD, u32::MAX)),
-        one("dCalibration 0, u32", u32(FIELD, 0)),
-        one("dCalibration 18446744073709, i64", i64(FIELD, most)),
-        one("dCalibration -2^63, i64", i64(FIELD, i64::MIN)),
-        one("dCalibration 18446744073709, u64", u64(FIELD, most as u64)),
-        one(
-            "dCalibration 18446744073710, u64",
-            u64(FIELD, most as u64 + 1),
-        ),
-        one("dCalibration 2^53 + 1, u64", u64(FIELD, (1 << 53) + 1)),
-        one("dCalibration 2^64 - 1, u64", u64(FIELD, u64::MAX)),
-        one("dCalibration 3, pointer", pointer(FIELD, 3)),
-        one("dCalibration true", flag(FIELD, 7)),
-        one("dCalibration false", flag(FIELD, 0)),
-    ]
-}
-
-fn no_numbers() -> Vec<Stated> {
-    let half = || f64(FIELD, 0.5);
-    vec![
-        ("no dCalibration", vec![f64("dAspect", 1.0)]),
-        ("dCalibration as a text", vec![text(FIELD, "0.5")]),
-        ("dCalibration as bytes", vec![bytes(FIELD, &[0; 8])]),
-        ("dCalibration as a level", vec![level(FIELD, vec![half()])]),
-        ("dCalibration as a list", vec![list(FIELD, vec![half()])]),
-        ("dCalibration twice", vec![half(), u32(FIELD, 1)]),
-        ("dCalibration, then a text", vec![half(), text(FIELD, "1")]),
-        ("SLxCalibration as a list", vec![raw(6, "", &[0; 8])]),
-    ]
 }
 
 /// Another outermost record, and trees that cannot be read.

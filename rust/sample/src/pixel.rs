@@ -4,7 +4,9 @@
 use crate::file::Nd2;
 use crate::parts::{self, Sizes};
 use crate::rng::Rng;
-use crate::tree::{double_bits, level, Record};
+use crate::tree::{
+    bytes, double_bits, f64, flag, i32, i64, level, list, pointer, raw, text, u32, u64, Record,
+};
 use crate::whole::Double;
 
 /// The field that states the size, in micrometres.
@@ -57,6 +59,55 @@ pub const DOUBLES: [Double; 37] = [
     ("signalling NaN", INFINITY + 1),
 ];
 
+/// A label, and what the level of the calibration has.
+pub type Stated = (&'static str, Vec<Record>);
+
+/// What is no double: numbers of other kinds, and what is no number.
+pub fn others() -> Vec<Stated> {
+    let mut others = numbers();
+    others.extend(no_numbers());
+    others
+}
+
+/// Numbers of other kinds.
+fn numbers() -> Vec<Stated> {
+    let most = 18_446_744_073_709;
+    let one = |label, record| (label, vec![record]);
+    vec![
+        one("dCalibration 1, i32", i32(FIELD, 1)),
+        one("dCalibration -1, i32", i32(FIELD, -1)),
+        one("dCalibration 2^32 - 1, u32", u32(FIELD, u32::MAX)),
+        one("dCalibration 0, u32", u32(FIELD, 0)),
+        one("dCalibration 18446744073709, i64", i64(FIELD, most)),
+        one("dCalibration -2^63, i64", i64(FIELD, i64::MIN)),
+        one("dCalibration 18446744073709, u64", u64(FIELD, most as u64)),
+        one(
+            "dCalibration 18446744073710, u64",
+            u64(FIELD, most as u64 + 1),
+        ),
+        one("dCalibration 2^53 + 1, u64", u64(FIELD, (1 << 53) + 1)),
+        one("dCalibration 2^64 - 1, u64", u64(FIELD, u64::MAX)),
+        one("dCalibration 3, pointer", pointer(FIELD, 3)),
+        one("dCalibration true", flag(FIELD, 7)),
+        one("dCalibration false", flag(FIELD, 0)),
+    ]
+}
+
+/// What is no number, and names that come twice.
+fn no_numbers() -> Vec<Stated> {
+    let half = || f64(FIELD, 0.5);
+    vec![
+        ("no dCalibration", vec![f64("dAspect", 1.0)]),
+        ("dCalibration as a text", vec![text(FIELD, "0.5")]),
+        ("dCalibration as bytes", vec![bytes(FIELD, &[0; 8])]),
+        ("dCalibration as a level", vec![level(FIELD, vec![half()])]),
+        ("dCalibration as a list", vec![list(FIELD, vec![half()])]),
+        ("dCalibration twice", vec![half(), u32(FIELD, 1)]),
+        ("dCalibration, then a text", vec![half(), text(FIELD, "1")]),
+        ("SLxCalibration as a list", vec![raw(6, "", &[0; 8])]),
+    ]
+}
+
 /// A file of one sample that opens, with this tree as its calibration.
 pub fn calibrated(calibration: &Record) -> Vec<u8> {
     let sizes = Sizes::packed(1, 1, 1, 8);
@@ -68,14 +119,14 @@ pub fn calibrated(calibration: &Record) -> Vec<u8> {
     file.finish()
 }
 
-/// The same, with this record in the level of the calibration.
-pub fn with(record: Record) -> Vec<u8> {
-    calibrated(&level("SLxCalibration", vec![record]))
+/// The same, with these records in the level of the calibration.
+pub fn with(records: Vec<Record>) -> Vec<u8> {
+    calibrated(&level("SLxCalibration", records))
 }
 
 /// The same with this double as the size.
 pub fn with_double(bits: u64) -> Vec<u8> {
-    with(double_bits(FIELD, bits))
+    with(vec![double_bits(FIELD, bits)])
 }
 
 /// Each power of two that is a double, subnormal ones too, with two neighbours on both sides; they rise from 0.

@@ -43,7 +43,7 @@ fn of_tree(calibration: Record) -> Result<u64, u32> {
 }
 
 fn of(record: Record) -> Result<u64, u32> {
-    of_file(&pixel::with(record))
+    of_file(&pixel::with(vec![record]))
 }
 
 /// The answer for each of the sample's doubles, in its order.
