@@ -84,14 +84,7 @@ fn exact(open: &Option<Result<Summary, u32>>) -> [u32; 3] {
 impl Answers {
     /// The calls in which other answers differ from these.
     pub fn differing(&self, other: &Answers) -> Vec<String> {
-        let opens = self.open == other.open && exact(&self.open) == exact(&other.open);
-        let small = exact(&self.small_open) == exact(&other.small_open);
         let same = [
-            ("open", opens),
-            (
-                "open, small table",
-                small && self.small_open == other.small_open,
-            ),
             ("planes", self.planes == other.planes),
             (
                 "planes, short buffer",
@@ -118,11 +111,24 @@ impl Answers {
             ("strange summaries", self.strange == other.strange),
             ("lent bytes", self.faults == other.faults),
         ];
-        let same = same.into_iter().chain(self.same_sheets(other));
+        let opens = self.same_opens(other).into_iter();
+        let same = opens.chain(same).chain(self.same_sheets(other));
         let same = same.chain(self.same_picometres(other));
         let differing = same.filter(|(_, same)| !same);
         let told = |(call, _)| format!("{call}: other answers than the first reader's");
         differing.map(told).collect()
+    }
+
+    /// The openings, and whether other answers are these.
+    fn same_opens(&self, other: &Answers) -> [(&'static str, bool); 2] {
+        let same = |a: &Option<Result<Summary, u32>>, b| a == b && exact(a) == exact(b);
+        [
+            ("open", same(&self.open, &other.open)),
+            (
+                "open, small table",
+                same(&self.small_open, &other.small_open),
+            ),
+        ]
     }
 
     /// The calls with sheets, and whether other answers are these.

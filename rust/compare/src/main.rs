@@ -3,11 +3,10 @@
 //!     compare ORIGINAL_FOLDER [--files N] [--seed S] [--corners] [--sizes N]
 //!
 //! ORIGINAL_FOLDER has the original's nd2_reader.rs, calibration.rs, types.rs and guard.rs. File i of a run is the one
-//! of seed S + i; with --corners, files at the limits come before them, which take time and memory. With --sizes, files
-//! of single pixel sizes come last: what is no double, doubles by name, those around each power of two, and N at random
-//! from seed S.
-//! Differences that docs/DIFFERENCES.md lists are counted; any other is printed with its seed, its file is saved, and
-//! the exit status is 1.
+//! of seed S + i; with --corners, files at the limits come before them, which take time and memory. With --sizes,
+//! files of single pixel sizes come last: what is no double, doubles by name, those around each power of two, and N at
+//! random from seed S. Differences that docs/DIFFERENCES.md lists are counted; any other is printed with its seed, its
+//! file is saved, and the exit status is 1.
 
 mod answers;
 mod check;

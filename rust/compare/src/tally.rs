@@ -157,11 +157,6 @@ fn numbers(a: &Answers) -> [Vec<u32>; 9] {
     let open = [a.open, a.small_open].into_iter().flatten();
     let planes = a.planes.iter().map(|l| l.number);
     let trees = a.trees.iter().chain(&a.small_trees).map(|l| l.number);
-    let channels = [
-        a.channels.as_ref().map(|row| row.number),
-        a.short_channels,
-        a.small_channels,
-    ];
     let register = [a.register.as_ref().map(|l| l.number), a.short_register];
     let wild = |call: usize| a.wild.iter().map(move |numbers| numbers[call]);
     let short = a.short_planes.iter().copied();
@@ -178,12 +173,7 @@ fn numbers(a: &Answers) -> [Vec<u32>; 9] {
             .chain(wild(1))
             .chain(strange(|s| s.tree.number))
             .collect(),
-        channels
-            .into_iter()
-            .flatten()
-            .chain(wild(2))
-            .chain(strange(|s| s.channels.number))
-            .collect(),
+        channels(a),
         register
             .into_iter()
             .flatten()
@@ -201,6 +191,21 @@ fn picometres(a: &Answers) -> Vec<u32> {
     let wild = a.wild.iter().map(|numbers| numbers[5]);
     let strange = a.strange.iter().map(|s| s.picometres.0);
     own.into_iter().chain(wild).chain(strange).collect()
+}
+
+fn channels(a: &Answers) -> Vec<u32> {
+    let own = [
+        a.channels.as_ref().map(|row| row.number),
+        a.short_channels,
+        a.small_channels,
+    ];
+    let wild = a.wild.iter().map(|numbers| numbers[2]);
+    let strange = a.strange.iter().map(|s| s.channels.number);
+    own.into_iter()
+        .flatten()
+        .chain(wild)
+        .chain(strange)
+        .collect()
 }
 
 fn sheets(a: &Answers) -> Vec<u32> {

@@ -64,8 +64,8 @@ pub struct Summary {
     pub row_bytes: u64,
     /// What the file says of its calibration.
     pub state: State,
-    /// Micrometres per pixel, across and down, where they are stated. [`Reader::picometres`](crate::Reader::picometres)
-    /// is the same size as a whole number.
+    /// Micrometres per pixel, across and down, where they are stated.
+    /// [`Reader::picometres`](crate::Reader::picometres) is the same size as a whole number.
     pub pixel_size: Option<(f32, f32)>,
     /// The distance of two focus steps.
     pub z_step: ZStep,

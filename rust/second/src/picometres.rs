@@ -57,8 +57,8 @@ pub fn rounded(value: &Value) -> Result<u64, u32> {
     }
 }
 
-/// The size that a value states, if it is a number above 0. A whole number is taken as it is: where it has no double of
-/// its own, it is past the range by far.
+/// The size that a value states, if it is a number above 0. A whole number is taken as it is: where it has no double
+/// of its own, it is past the range by far.
 fn size(value: &Value) -> Option<Size> {
     match *value {
         Value::Flag(flag) => whole(flag as u64),

@@ -185,46 +185,41 @@ fn around_every_power_of_two() {
 
 #[test]
 fn whole_numbers() {
-    let million = Ok(1_000_000);
-    for one in [
-        i32(FIELD, 1),
-        u32(FIELD, 1),
-        i64(FIELD, 1),
-        u64(FIELD, 1),
-        pointer(FIELD, 1),
-    ] {
-        assert_eq!(of(one), million);
+    let kinds: [fn(&str, i32) -> Record; 2] = [i32, |name, n| i64(name, n.into())];
+    for one in kinds {
+        assert_eq!(of(one(FIELD, 1)), Ok(1_000_000));
+        assert_eq!(of(one(FIELD, i32::MAX)), Ok(2_147_483_647_000_000));
+        for none in [0, -1, i32::MIN] {
+            assert_eq!(of(one(FIELD, none)), MISSING);
+        }
     }
+    assert_eq!(of(i64(FIELD, i64::MIN)), MISSING);
+    assert_eq!(of(u32(FIELD, 1)), Ok(1_000_000));
     assert_eq!(of(u32(FIELD, u32::MAX)), Ok(4_294_967_295_000_000));
-    assert_eq!(of(i32(FIELD, i32::MAX)), Ok(2_147_483_647_000_000));
+    assert_eq!(of(u32(FIELD, 0)), MISSING);
+    for long in [u64, pointer] {
+        assert_eq!(of(long(FIELD, 1)), Ok(1_000_000));
+        assert_eq!(of(long(FIELD, 0)), MISSING);
+        assert_eq!(of(long(FIELD, u64::MAX)), RANGE);
+    }
+}
+
+#[test]
+fn whole_numbers_at_the_limit() {
     let most = 18_446_744_073_709;
-    assert_eq!(of(u64(FIELD, most)), Ok(18_446_744_073_709_000_000));
-    assert_eq!(of(i64(FIELD, most as i64)), Ok(18_446_744_073_709_000_000));
-    assert_eq!(of(pointer(FIELD, most)), Ok(18_446_744_073_709_000_000));
-    for past in [most + 1, 1 << 53, (1 << 53) + 1, i64::MAX as u64] {
-        assert_eq!(of(u64(FIELD, past)), RANGE);
-        assert_eq!(of(i64(FIELD, past as i64)), RANGE);
+    let kinds: [fn(&str, u64) -> Record; 3] = [u64, pointer, |name, n| i64(name, n as i64)];
+    for long in kinds {
+        assert_eq!(of(long(FIELD, most)), Ok(18_446_744_073_709_000_000));
+        for past in [most + 1, 1 << 53, (1 << 53) + 1, i64::MAX as u64] {
+            assert_eq!(of(long(FIELD, past)), RANGE);
+        }
     }
-    assert_eq!(of(u64(FIELD, u64::MAX)), RANGE);
-    for none in [
-        i32(FIELD, 0),
-        u32(FIELD, 0),
-        i64(FIELD, 0),
-        u64(FIELD, 0),
-        pointer(FIELD, 0),
-    ] {
-        assert_eq!(of(none), MISSING);
-    }
-    for below in [
-        i32(FIELD, -1),
-        i32(FIELD, i32::MIN),
-        i64(FIELD, -1),
-        i64(FIELD, i64::MIN),
-    ] {
-        assert_eq!(of(below), MISSING);
-    }
-    assert_eq!(of(flag(FIELD, 1)), million);
-    assert_eq!(of(flag(FIELD, 7)), million);
+}
+
+#[test]
+fn flags() {
+    assert_eq!(of(flag(FIELD, 1)), Ok(1_000_000));
+    assert_eq!(of(flag(FIELD, 7)), Ok(1_000_000));
     assert_eq!(of(flag(FIELD, 0)), MISSING);
 }
 
