@@ -3,7 +3,7 @@
  *   damaged FILE ROUNDS SEED
  *
  * FILE is a good file of less than a megabyte, as `cargo run -p sample --example roller -- FILE 24 11 2 8 8` in rust/ writes one. Each round damages a copy of
- * it, and asks open, plane, sheet, tree, channels, register and the border call, with summaries that were opened and with damaged ones, and with buffers of
+ * it, and asks open, plane, sheet, tree, channels, register, the pixel size and the border call, with summaries that were opened and with damaged ones, and with buffers of
  * random lengths; a sheet that was written is read back, damaged and read again. A call that reads or writes past a buffer ends the program by a signal; built
  * with -fsanitize=address the program's own side is watched too. Exit status 0: nothing found.
  */
@@ -81,7 +81,7 @@ static int all(const uint8_t *p, size_t n, int v)
 
 /* ---- what is looked at */
 
-enum { NUMBERS = ND2_SHEET_LAYOUT + 1 };
+enum { NUMBERS = ND2_SIZE_RANGE + 1 };
 
 static unsigned long calls, accepted, refusals[NUMBERS];
 static uint64_t seed, round_now;
@@ -165,6 +165,17 @@ static void ask_register(void)
     uint32_t n = told("register", nd2_register(file.at, file.len, summary.at, summary.len, samples.at, samples.len), &samples, &table);
     if (n != 0 && !all(samples.at, samples.len, 0x77))
         fail("a refused register changed the buffer", n);
+}
+
+static void ask_picometres(void)
+{
+    uint64_t size = 0x7777777777777777u;
+    lend(&table, table_len(), 0x77);
+    uint32_t n = told("picometres", nd2_picometres(file.at, file.len, summary.at, summary.len, table.at, table.len, &size), &table, &summary);
+    if (!all(table.at, table.len, 0))
+        fail("the pixel size left the table", n);
+    if (n != 0 && size != 0)
+        fail("a refused pixel size left a number", n);
 }
 
 static void ask_border(void)
@@ -300,6 +311,7 @@ static void ask_all(const uint8_t *bytes, size_t len)
     ask_tree();
     ask_channels();
     ask_register();
+    ask_picometres();
     ask_border();
 }
 

@@ -5,7 +5,7 @@
  * pointer that is not null. The buffers of one call may not overlap where one of them is written. All numbers in buffers are little-endian.
  *
  * Every call returns 0, or the number of the first refusal that holds (ND2_...). On a refusal samples, register and sheet keep every byte, and
- * table, summary, channel records and the numbers of a sheet are all zero.
+ * table, summary, channel records, the numbers of a sheet and the pixel size are all zero.
  */
 #ifndef ND2_H
 #define ND2_H
@@ -47,7 +47,8 @@ enum {
     ND2_FRAME_SHORT = 24, /* the frame's data is too short */
     ND2_BUFFER = 25,      /* the lent samples, register or sheet are too short */
     ND2_SHEET_LONG = 26,  /* a sheet would have more than 4,294,967,295 bytes */
-    ND2_SHEET_LAYOUT = 27 /* the sheet is not of this reader's layout */
+    ND2_SHEET_LAYOUT = 27, /* the sheet is not of this reader's layout */
+    ND2_SIZE_RANGE = 28    /* the pixel size is infinite, or more than 2^64 - 1 picometres */
 };
 
 /* ---- layouts */
@@ -150,6 +151,12 @@ uint32_t nd2_tree(const uint8_t *file, size_t file_len, const uint8_t *summary, 
  * room, all zero afterwards. */
 uint32_t nd2_channels(const uint8_t *file, size_t file_len, const uint8_t *summary, size_t summary_len, uint8_t *table, size_t table_len,
                       uint8_t *row, size_t row_len);
+
+/* The pixel size in whole picometres: what the calibration's tree states in micrometres, as it is stored, times 1,000,000 and rounded to the nearest
+ * whole number, the even one of two as near; exact for every double. A size of less than half a picometre is 0. 11 where none above 0 is stated, then 28. The
+ * float x of a summary is the same size rounded once to 24 binary digits. The table is working room, all zero afterwards; *picometres is 0 on a refusal. */
+uint32_t nd2_picometres(const uint8_t *file, size_t file_len, const uint8_t *summary, size_t summary_len, uint8_t *table, size_t table_len,
+                        uint64_t *picometres);
 
 /* Writes one record for each frame, in order. Later bytes of the buffer are untouched. */
 uint32_t nd2_register(const uint8_t *file, size_t file_len, const uint8_t *summary, size_t summary_len, uint8_t *buffer, size_t buffer_len);
