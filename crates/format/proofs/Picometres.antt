@@ -4,12 +4,13 @@ use mathlib.Core.Path.{_≡_, refl, sym, ap, _∙_, subst}
 use mathlib.Core.Logic.{_⊎_, inl, inr, _↔_}
 use mathlib.Core.Bool.{Bool, true, false, cond, true≢false, false≢true}
 use mathlib.Core.Option.{Option, none, some}
+use mathlib.Core.List.{[], _∷_}
 use native.Mathlib.Nat.{le-trans, le-of-eq, le-antisymm, zero-mul, mul-one, mul-right-comm, mul-le-mul-right, mul-pos, eq-of-mul-eq-mul-right}
 use native.Mathlib.Omega.{arith}
 use borrow.Author.Tests.{ltb-true, leb-true, leb-false, lt-ltb}
 use lib.Dec.{T, ltb, leb, ltb→lt, lit<, lit≤}
 use lib.IntN.{ℤ, pos, negsuc}
-use lib.Ieee.{Float, nan, inf, fin, Format, binary64, prec, emax, low, up, down, size, odd, units, round, ofInt, lt, le}
+use lib.Ieee.{Float, nan, inf, fin, Format, binary64, prec, emax, low, up, down, size, odd, units, round, ofInt, ofBits, lt, le}
 use lib.Ieee.Fits.{up-pos, down-pos, round-is}
 use lib.Ieee.Exact.{HasValue}
 use lib.Ieee.Back.{round-whole}
@@ -25,6 +26,7 @@ use Rattle.format.specs.Numbers.{inU64, float, positive, zeroFloat}
 use Rattle.format.specs.Calibration.{aboveZero}
 use Rattle.format.specs.Picometres.{picometres}
 use Rattle.format.specs.Grammar.Numbers.{Equals, plus, minus-zero, Number, unset, set, stored, of-double}
+use Rattle.format.specs.Grammar.Lists.{All, over, more}
 use Rattle.format.specs.Grammar.Picometres as rules
 use Rattle.format.specs.Grammar.Picometres.{Rounds, Positive, whole-number, Endless, plus-infinity, AboveZero, finite, infinite, InPicometres}
 
@@ -290,3 +292,17 @@ size-is v n = (
 -- a whole number of picometres
 pub exact-size : (v : Value) (size unit n : ℕ) → Positive v size unit → size * 1_000_000 ≡ n * unit → InPicometres v n
 exact-size v size unit n p e = record { size = size; unit = unit; above-0 = p; rounds = rw e (rounds-whole n unit (unit-some p)) }
+
+-- ---- above 0 or not, by the bits of a double
+
+no-size : (x : Float) → sizeOf (double x) ≡ none → AboveZero (double x) → ⊥
+no-size x e a = let (y, f) = above-read (double x) a in none≢some (sym e ∙ f)
+
+pub not-above : All (λ bits. AboveZero (double (ofBits binary64 bits)) → ⊥)
+    (0x7FF8000000000000 ∷ 0xFFF0000000000000 ∷ 0x8000000000000000 ∷ 0xBFF0000000000000 ∷ [])
+unfolding ofBits float aboveZero positive lt
+not-above = more (no-size _ refl) (more (no-size _ refl) (more (no-size _ refl) (more (no-size _ refl) over)))
+
+pub infinity-endless : Endless (double (ofBits binary64 0x7FF0000000000000))
+unfolding ofBits
+infinity-endless = plus-infinity

@@ -20,8 +20,9 @@ use Rattle.format.proofs.DoubleEdges.{minus-zero, last-u64, past-u64, l
 use Rattle.format.proofs.Wholes.{in-u64, no-u64, unsigned-of, signed-of, unsigned-absent, u32-absent, signed-absent}
 use Rattle.format.proofs.Closest.{closest-rounds, rounds-only}
 use Rattle.format.proofs.Picometres.{rounded, double-size, size-is, exact-size, above-read, read-above, in-picometres-once, size-mono}
-use Rattle.format.proofs.SizeEdges as size-edges
-use Rattle.format.proofs.SizeEdges.{plain, halfway, half-one, product-rounds, largest, not-above, plus-infinity}
+use Rattle.format.proofs.Picometres.{not-above, infinity-endless}
+use Rattle.format.proofs.DoubleSizes as sizes
+use Rattle.format.proofs.DoubleSizes.{plain, halfway, half-one, product-rounds, largest}
 use Rattle.format.proofs.PicometresCalls.{picometres-number, picometres-number-only, picometres-accepted, picometres-table, picometres-refused}
 use Rattle.format.proofs.PicometresCalls.{picometres-size, size-once}
 use Rattle.format.proofs.OpenedSize.{opened-size}
@@ -102,12 +103,12 @@ picometres = record {
   halfway = halfway;
   half-one = half-one;
   product-rounds = product-rounds;
-  smallest = size-edges.smallest;
-  last-u64 = size-edges.last-u64;
-  past-u64 = size-edges.past-u64;
+  smallest = sizes.smallest;
+  last-u64 = sizes.last-u64;
+  past-u64 = sizes.past-u64;
   largest = largest;
   not-above = not-above;
-  plus-infinity = plus-infinity;
+  plus-infinity = infinity-endless;
   number = picometres-number;
   number-only = picometres-number-only;
   accepted = picometres-accepted;

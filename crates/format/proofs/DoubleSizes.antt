@@ -1,17 +1,8 @@
 -- Doubles halfway, at the ends and past them, in picometres: computed from their bits. Assumes nothing.
-use mathlib.Core.Path.{_≡_, refl, sym, _∙_}
+use mathlib.Core.Path.{_≡_, refl}
 use mathlib.Core.Option.{none, some}
-use mathlib.Core.List.{[], _∷_}
-use lib.Ieee.{Float, binary64, ofBits, lt}
-use Rattle.format.proofs.Answers.{none≢some}
-use Rattle.format.proofs.Picometres.{sizeOf, above-read}
-use Rattle.format.specs.Values.{double}
-use Rattle.format.specs.Numbers.{float, positive}
-use Rattle.format.specs.Calibration.{aboveZero}
+use lib.Ieee.{binary64, ofBits}
 use Rattle.format.specs.Picometres.{picometres}
-use Rattle.format.specs.Grammar.Lists.{All, over, more}
-use Rattle.format.specs.Grammar.Picometres as rules
-use Rattle.format.specs.Grammar.Picometres.{Endless, AboveZero}
 
 pub plain : (picometres (ofBits binary64 0x3FF0000000000000) ≡ some 1_000_000) × (picometres (ofBits binary64 0x3FB999999999999A) ≡ some 100_000)
 unfolding ofBits picometres
@@ -44,17 +35,3 @@ past-u64 = refl
 pub largest : (picometres (ofBits binary64 0x7FEFFFFFFFFFFFFF) ≡ none) × (picometres (ofBits binary64 0x7FF0000000000000) ≡ none)
 unfolding ofBits picometres
 largest = (refl, refl)
-
--- ---- above 0 or not
-
-no-size : (x : Float) → sizeOf (double x) ≡ none → AboveZero (double x) → ⊥
-no-size x e a = let (y, f) = above-read (double x) a in none≢some (sym e ∙ f)
-
-pub not-above : All (λ bits. AboveZero (double (ofBits binary64 bits)) → ⊥)
-    (0x7FF8000000000000 ∷ 0xFFF0000000000000 ∷ 0x8000000000000000 ∷ 0xBFF0000000000000 ∷ [])
-unfolding ofBits float aboveZero positive lt
-not-above = more (no-size _ refl) (more (no-size _ refl) (more (no-size _ refl) (more (no-size _ refl) over)))
-
-pub plus-infinity : Endless (double (ofBits binary64 0x7FF0000000000000))
-unfolding ofBits
-plus-infinity = rules.plus-infinity
