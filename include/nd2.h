@@ -154,7 +154,7 @@ uint32_t nd2_channels(const uint8_t *file, size_t file_len, const uint8_t *summa
 
 /* The pixel size in whole picometres: what the calibration's tree states in micrometres, as it is stored, times 1,000,000 and rounded to the nearest
  * whole number, the even one of two as near; exact for every double. A size of less than half a picometre is 0. 11 where none above 0 is stated, then 28. The
- * float x of a summary is the same size rounded once to 24 binary digits. The table is working room, all zero afterwards; *picometres is 0 on a refusal. */
+ * float x of a summary is the same size, rounded to a float. The table is working room, all zero afterwards; *picometres is 0 on a refusal. */
 uint32_t nd2_picometres(const uint8_t *file, size_t file_len, const uint8_t *summary, size_t summary_len, uint8_t *table, size_t table_len,
                         uint64_t *picometres);
 

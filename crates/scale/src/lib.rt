@@ -23,6 +23,7 @@ const MICROMETRE: u64 = 1_000_000;
 // A u64 is two words of 32 bits.
 const WORD: u64 = 0x1_0000_0000;
 
+// The largest u64.
 const MOST: u64 = 0xffff_ffff_ffff_ffff;
 
 // An f64's pattern: its sign, and the leading digit that is not written.
