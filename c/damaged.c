@@ -3,9 +3,9 @@
  *   damaged FILE ROUNDS SEED
  *
  * FILE is a good file of less than a megabyte, as `cargo run -p sample --example roller -- FILE 24 11 2 8 8` in rust/ writes one. Each round damages a copy of
- * it, and asks open, plane, sheet, tree, channels, register, the pixel size and the border call, with summaries that were opened and with damaged ones, and with buffers of
- * random lengths; a sheet that was written is read back, damaged and read again. A call that reads or writes past a buffer ends the program by a signal; built
- * with -fsanitize=address the program's own side is watched too. Exit status 0: nothing found.
+ * it, and asks open, plane, sheet, tree, channels, register, the pixel size and the border call, with summaries that were opened and with damaged ones, and
+ * with buffers of random lengths; a sheet that was written is read back, damaged and read again. A call that reads or writes past a buffer ends the program by
+ * a signal; built with -fsanitize=address the program's own side is watched too. Exit status 0: nothing found.
  */
 #include <stdint.h>
 #include <stdio.h>

@@ -1,7 +1,7 @@
 -- Laws of the lists of which the grammar's rules speak: two lists of just the same numbers are equal. Assumes nothing.
 use Prim.Native.Nat.{ℕ, zero, suc, _≤_, _<_}
 use mathlib.Core.Path.{_≡_, refl, sym, ap₂}
-use mathlib.Core.List.{List, [], _∷_, _++_}
+use mathlib.Core.List.{List, [], _∷_, _++_, map}
 use mathlib.Core.Logic.{_⊎_, inl, inr, ⊎-elim}
 use native.Mathlib.Omega.{arith}
 use lib.ListN.{take}
@@ -38,9 +38,17 @@ in-cons : {j i : ℕ} {is : List ℕ} → In j (i ∷ is) → (j ≡ i) ⊎ In j
 in-cons here = inl refl
 in-cons (behind x) = inr x
 
-pub in-left : {j : ℕ} {is : List ℕ} (js : List ℕ) → In j is → In j (is ++ js)
+pub in-left : {A : Type 0} {j : A} {is : List A} (js : List A) → In j is → In j (is ++ js)
 in-left js here = here
 in-left js (behind x) = behind (in-left js x)
+
+pub in-right : {A : Type 0} {j : A} (is : List A) {js : List A} → In j js → In j (is ++ js)
+in-right [] x = x
+in-right (i ∷ is) x = behind (in-right is x)
+
+pub in-map : {A B : Type 0} (f : A → B) {j : A} {is : List A} → In j is → In (f j) (map f is)
+in-map f here = here
+in-map f (behind x) = behind (in-map f x)
 
 pub in-last : (j : ℕ) (is : List ℕ) → In j (is ++ j ∷ [])
 in-last j [] = here

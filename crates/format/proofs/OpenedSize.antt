@@ -1,4 +1,4 @@
--- Beside the summary of an opening: the size that it states in f32 is that of the double whose picometres are told. Assumes nothing.
+-- Beside the summary of an opening: the size that it states in f32 is the one whose picometres are told. Assumes nothing.
 use Prim.Native.Nat.{ℕ}
 use mathlib.Core.Path.{_≡_, refl, sym, ap, _∙_}
 use mathlib.Core.Bool.{Bool, true, false, cond}
@@ -15,14 +15,17 @@ use Rattle.format.proofs.Sounds.{joined-sound}
 use Rattle.format.proofs.Files.{opened-iff-joined}
 use Rattle.format.proofs.Demands.{opened-given}
 use Rattle.format.proofs.TreeCalls.{in-order, named-decides}
-use Rattle.format.proofs.PicometresCalls.{calibrationName}
+use Rattle.format.proofs.PicometresCalls.{calibrationName, means, size-found}
+use Rattle.format.proofs.Picometres.{sizeOf}
+use Rattle.format.proofs.Named.{tree-given, read-named}
+use Rattle.format.proofs.Entries.{data-read}
 use Rattle.format.specs.Answer.{Answer, refused, given, refuseIf, andThen, orRefuse, numberOf}
 use Rattle.format.specs.Bytes.{ascii, most64}
 use Rattle.format.specs.Chunks.{dataIn}
 use Rattle.format.specs.Refusals as why
 use Rattle.format.specs.Map.{MapEntry, mapEntries, mapRange}
 use Rattle.format.specs.Trees.{roomIn, mostDepth, namedTree}
-use Rattle.format.specs.Values.{field, asLevel}
+use Rattle.format.specs.Values.{Value, field, asLevel}
 use Rattle.format.specs.Attributes.{attributes, planeBytes}
 use Rattle.format.specs.Loops.{experiment}
 use Rattle.format.specs.Numbers.{narrow}
@@ -33,7 +36,8 @@ use Rattle.format.specs.Calls.Open.{opened, openCall, summaryOrZero}
 use Rattle.format.specs.Calls.Tree.{treeNamed}
 use Rattle.format.specs.Calls.Picometres.{picometresIn, picometresOf, orZero, picometresCall}
 use Rattle.format.specs.Refused.Tree.{treeOrder}
-use Rattle.format.specs.Sentences.{SizeTold}
+use Rattle.format.specs.Refused.Picometres.{CalibrationTree, SizeAt}
+use Rattle.format.specs.Sentences.{StatedSize, SizeTold}
 use Rattle.format.specs.Sentences as sentences
 use Rattle.format.specs.declared.Range.{Range}
 use Rattle.format.specs.declared.Entry.{Entry}
@@ -45,9 +49,10 @@ abbrev Other : ℕ → Type 0
 Other n = (n ≡ 0 → ⊥) × (n ≡ why.sizeRange → ⊥)
 
 -- the same of a calibration and the call's answer
-data Told (c : Calibration) (a : Answer ℕ) : Type 0 where
-  size-of : (x : Float) → c .state ≡ 1 → c .size ≡ narrow x → a ≡ orRefuse (picometres x) why.sizeRange → Told c a
-  refuses : (n : ℕ) → (c .state ≡ 1 → ⊥) → a ≡ refused n → Other n → Told c a
+data Told (s : List ℕ) (u : Summary) (c : Calibration) (a : Answer ℕ) : Type 0 where
+  size-of : (x : Float) (v : Value) → SizeAt s u v → sizeOf v ≡ some x → c .state ≡ 1 → c .size ≡ narrow x → a ≡ orRefuse (picometres x) why.sizeRange
+      → Told s u c a
+  refuses : (n : ℕ) → (c .state ≡ 1 → ⊥) → a ≡ refused n → Other n → Told s u c a
 
 module _ (s : List ℕ) (u : Summary) (room : ℕ) (es : List MapEntry) (map : mapEntries (mapOf s u) ≡ given es) where
   -- a tree's numbers
@@ -58,30 +63,38 @@ module _ (s : List ℕ) (u : Summary) (room : ℕ) (es : List MapEntry) (map : m
       (λ z. omega arith, λ z. not-in why.sizeRange treeOrder refl (rw z at i))
 
   by-tree : (z : Option Float) (c : Calibration) (t : Answer (List Entry)) → namedTree s (mapOf s u) es room calibrationName ≡ t
-      → calibrationBy s z t ≡ given c → Told c (andThen t (picometresIn s))
+      → calibrationBy s z t ≡ given c → Told s u c (andThen t (picometresIn s))
   unfolding calibrationBy stated unstated picometresIn andThen orRefuse
-  by-tree z c (given ts) q e = by-size (pixelSize s ts) e
+  by-tree z c (given ts) q e = by-size (pixelSize s ts) refl e
     where
-      by-size : (o : Option Float) → given (stated o z) ≡ given c → Told c (andThen (orRefuse o why.missing) λ x. orRefuse (picometres x) why.sizeRange)
-      by-size none e = rw (← given-inj e) (refuses why.missing (λ h. omega arith) refl (λ h. omega arith, λ h. omega arith))
-      by-size (some x) e = rw (← given-inj e) (size-of x refl refl refl)
+      tree : CalibrationTree s u ts
+      tree =
+          let (r, x, t, h) = tree-given s (mapOf s u) es calibrationName room ts q in
+          record { place = r; chunk = data-read s u es map calibrationName r (read-named s (mapOf s u) es calibrationName r x); tree = t }
+
+      by-size : (o : Option Float) → pixelSize s ts ≡ o → given (stated o z) ≡ given c
+          → Told s u c (andThen (orRefuse o why.missing) λ x. orRefuse (picometres x) why.sizeRange)
+      by-size none f e = rw (← given-inj e) (refuses why.missing (λ h. omega arith) refl (λ h. omega arith, λ h. omega arith))
+      by-size (some x) f e =
+          let (v, y, g) = size-found s ts (means s u tree) x f in
+          rw (← given-inj e) (size-of x v (record { entries = ts; tree = tree; stated = y }) g refl refl refl)
   by-tree z c (refused n) q e = by-number (eqb n why.table) e
     where
       unsized : (b : Bool) → unstated (cond b 2 0) .state ≡ 1 → ⊥
       unsized true h = omega arith
       unsized false h = omega arith
 
-      by-number : (b : Bool) → cond b (refused why.table) (given (unstated (cond (eqb n why.packed) 2 0))) ≡ given c → Told c (refused n)
+      by-number : (b : Bool) → cond b (refused why.table) (given (unstated (cond (eqb n why.packed) 2 0))) ≡ given c → Told s u c (refused n)
       by-number true e = absurd (refused≢given e)
       by-number false e = rw (← given-inj e) (refuses n (unsized (eqb n why.packed)) refl (tree-other n q))
 
-  told : badSummary s u ≡ false → (z : Option Float) (c : Calibration) → calibration s (mapOf s u) es room z ≡ given c → Told c (picometresOf s u room)
+  told : badSummary s u ≡ false → (z : Option Float) (c : Calibration) → calibration s (mapOf s u) es room z ≡ given c → Told s u c (picometresOf s u room)
   unfolding calibration picometresOf treeNamed refuseIf andThen
   told b z c e = rw (b, map) (by-tree z c (namedTree s (mapOf s u) es room calibrationName) refl e)
 
 -- the summary of an opening
 opened-told : (s : List ℕ) (room : ℕ) (u : Summary) → opened s room ≡ given u
-    → (c : Calibration) × (u .calibration ≡ c .state) × (u .x ≡ c .size) × Told c (picometresOf s u room)
+    → (c : Calibration) × (u .calibration ≡ c .state) × (u .x ≡ c .size) × Told s u c (picometresOf s u room)
 unfolding opened summaryOf
 opened-told s room u e =
     let b = read-sound s u (joined-sound s u (opened-iff-joined s room u .0 e .0)) in
@@ -99,22 +112,25 @@ opened-told s room u e =
     (c, ap (λ (v : Summary). v .calibration) (sym q), ap (λ (v : Summary). v .x) (sym q), go r (ap (λ (v : Summary). v .map) q) es f₂ b _ c f₉)
   where
     go : (r : Range) → r ≡ u .map → (es : List MapEntry) → mapEntries (dataIn s r) ≡ given es → badSummary s u ≡ false → (z : Option Float) (c : Calibration)
-        → calibration s (dataIn s r) es room z ≡ given c → Told c (picometresOf s u room)
+        → calibration s (dataIn s r) es room z ≡ given c → Told s u c (picometresOf s u room)
     go r q es f b z c g = told s u room es (rw q at f) b z c (rw q at g)
 
 -- and what the call says of it
 by-answer : (file table : List ℕ) (u : Summary) (c : Calibration) → u .calibration ≡ c .state → u .x ≡ c .size
-    → Told c (picometresOf file u (roomIn (length table))) → SizeTold u (picometresCall file u table)
+    → Told file u c (picometresOf file u (roomIn (length table))) → SizeTold file u (picometresCall file u table)
 unfolding picometresCall numberOf orZero orRefuse
-by-answer file table u c p q (size-of x h k a) = go (picometres x) refl
+by-answer file table u c p q (size-of x v t g h k a) = go (picometres x) refl
   where
-    go : (o : Option ℕ) → picometres x ≡ o → SizeTold u (picometresCall file u table)
-    go none e = sentences.over x (p ∙ h) (q ∙ k) (rw (a, e) refl) e
-    go (some n) e = sentences.stated x (p ∙ h) (q ∙ k) (rw (a, e) refl) (e ∙ (rw (a, e) refl))
+    is : StatedSize file u x
+    is = record { value = v; there = t; read = g; state = p ∙ h; in-f32 = q ∙ k }
+
+    go : (o : Option ℕ) → picometres x ≡ o → SizeTold file u (picometresCall file u table)
+    go none e = sentences.over is (rw (a, e) refl) e
+    go (some n) e = sentences.stated is (rw (a, e) refl) (e ∙ (rw (a, e) refl))
 by-answer file table u c p q (refuses n h a (z, w)) = sentences.unstated (λ y. h (sym p ∙ y)) (λ y. z (rw a at y)) (λ y. w (rw a at y))
 
 pub opened-size : (file table : List ℕ) → openCall file table .number ≡ 0
-    → SizeTold (openCall file table .summary) (picometresCall file (openCall file table .summary) table)
+    → SizeTold file (openCall file table .summary) (picometresCall file (openCall file table .summary) table)
 unfolding openCall
 opened-size file table e =
     let room = roomIn (length table) in

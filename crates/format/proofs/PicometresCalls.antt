@@ -1,24 +1,22 @@
 -- A picometres call's number is what its first stage that refuses gives, and its size is the rules'. Assumes nothing.
-use Prim.Native.Nat.{ℕ, _^_, _≤_, _<_}
+use Prim.Native.Nat.{ℕ, _<_}
 use mathlib.Core.Path.{_≡_, refl, sym, ap, _∙_, subst}
 use mathlib.Core.Logic.{inl, inr}
-use mathlib.Core.Bool.{Bool, true, false, cond}
 use mathlib.Core.Option.{Option, none, some, Option·some-inj}
-use mathlib.Core.List.{List, [], _∷_, _++_, map}
-use lib.Dec.{ltb, lit<}
-use lib.IntN.{pos}
+use mathlib.Core.List.{List, [], _∷_, map}
+use lib.Dec.{lit<}
 use lib.ListN.{length}
 use lib.Ieee.{Float}
 use native.Mathlib.Omega.{arith}
-use borrow.Author.Tests.{ltb-false}
-use Rattle.format.proofs.Answers.{none≢some, andThen-given, orRefuse-given, found, Numbered, refusal, answer, orRefuse-numbered}
+use Rattle.format.proofs.Answers.{none≢some, andThen-given, orRefuse-given, no-given, found, Numbered, refusal, answer, orRefuse-numbered}
 use Rattle.format.proofs.Rules.{States, only-one, bind-some, some-bind}
-use Rattle.format.proofs.Wholes.{no-u64}
+use Rattle.format.proofs.Wholes.{no-u64, none-u64}
 use Rattle.format.proofs.Means.{Means}
 use Rattle.format.proofs.Fields.{field-in, level-at}
 use Rattle.format.proofs.Named.{tree-means}
 use Rattle.format.proofs.Entries.{tree-once}
 use Rattle.format.proofs.Orders.{all-in, nonzero}
+use Rattle.format.proofs.Lists.{in-left, in-right, in-map}
 use Rattle.format.proofs.Stages.{DecidesAt, stage-one, decides-then, decides-first, decides-numbered, decides-staged, accepted-at, first-once}
 use Rattle.format.proofs.TreeCalls.{in-order, tree-decides, tree-whole}
 use Rattle.format.proofs.Picometres.{sizeOf, size-read, read-size, size-is, endless-read, above-read, read-above, in-picometres-once}
@@ -27,7 +25,7 @@ use Rattle.format.specs.Bytes.{ascii, zeros}
 use Rattle.format.specs.Refusals as why
 use Rattle.format.specs.Trees.{roomIn}
 use Rattle.format.specs.Values.{Value, field, fieldIn, asLevel, bind}
-use Rattle.format.specs.Numbers.{inU64, float}
+use Rattle.format.specs.Numbers.{float}
 use Rattle.format.specs.Calibration.{aboveZero, pixelSize}
 use Rattle.format.specs.Picometres.{picometres}
 use Rattle.format.specs.Calls.Tree.{treeNamed}
@@ -42,32 +40,6 @@ use Rattle.format.specs.Refused.Picometres.{PicometresRefusal, tree-refu
 use Rattle.format.specs.Sentences.{AtSome, AcceptedUnless}
 use Rattle.format.specs.declared.Entry.{Entry}
 use Rattle.format.specs.declared.Summary.{Summary}
-
--- ---- small things
-
-no-given : {A : Type 0} (o : Option A) (n : ℕ) → ((a : A) → orRefuse o n ≡ given a → ⊥) → o ≡ none
-unfolding orRefuse
-no-given none n f = refl
-no-given (some a) n f = absurd (f a refl)
-
-not-held : (n : ℕ) → inU64 (pos n) ≡ none → 2 ^ 64 ≤ n
-unfolding inU64
-not-held n = go (ltb n (2 ^ 64)) refl
-  where
-    go : (b : Bool) → ltb n (2 ^ 64) ≡ b → cond b (some n) none ≡ none → 2 ^ 64 ≤ n
-    go true h e = absurd (none≢some (sym e))
-    go false h e = ltb-false n (2 ^ 64) h
-
-in-map : {A B : Type 0} (f : A → B) {a : A} {xs : List A} → In a xs → In (f a) (map f xs)
-in-map f here = here
-in-map f (behind i) = behind (in-map f i)
-
-in-front : {A : Type 0} (ys : List A) {a : A} {xs : List A} → In a xs → In a (xs ++ ys)
-in-front ys here = here
-in-front ys (behind i) = behind (in-front ys i)
-
-in-back : {a : PicometresStage} {bs : List PicometresStage} → In a bs → In a (map reading treeOrder ++ bs)
-in-back i = behind (behind (behind (behind (behind (behind (behind (behind (behind (behind i)))))))))
 
 -- ---- what a tree states
 
@@ -97,7 +69,7 @@ module _ (s : List ℕ) (es : List Entry) (M : Means s es) where
       go (some i) f = unfold bind in refl
 
   -- the size that is read is that of the value, and the value has no other
-  size-found : (x : Float) → pixelSize s es ≡ some x → (v : Value) × SizeStated s es v × (sizeOf v ≡ some x)
+  pub size-found : (x : Float) → pixelSize s es ≡ some x → (v : Value) × SizeStated s es v × (sizeOf v ≡ some x)
   size-found x e = go value refl (sym pixel-is ∙ e)
     where
       go : (o : Option Value) → value ≡ o → aboveZero (bind o float) ≡ some x → (v : Value) × SizeStated s es v × (sizeOf v ≡ some x)
@@ -113,7 +85,7 @@ abbrev pub calibrationName : List ℕ
 calibrationName = ascii "ImageCalibrationLV|0!"
 
 module _ (s : List ℕ) (u : Summary) where
-  means : {es : List Entry} → CalibrationTree s u es → Means s es
+  pub means : {es : List Entry} → CalibrationTree s u es → Means s es
   means {es} t = tree-means s (t .place) es (t .tree)
 
   -- a file has one such tree, and one value in it
@@ -156,7 +128,7 @@ module _ (s : List ℕ) (u : Summary) where
         over : picometres x ≡ none → Q stages.range why.sizeRange
         over q = elim (read-size v x e) [
           | inl i ↦ endless there (i .0)
-          | inr (n, r, p) ↦ too-large (record { value = v; there = there; in-picometres = r }) (not-held n (sym p ∙ q))
+          | inr (n, r, p) ↦ too-large (record { value = v; there = there; in-picometres = r }) (none-u64 n (sym p ∙ q))
         ]
 
         -- and one that a u64 holds is not refused
@@ -190,10 +162,10 @@ module _ (s : List ℕ) (u : Summary) where
 
     -- every refusal is of a stage in the order, and has a number
     staged : (a : PicometresStage) (k : ℕ) → Q a k → In a picometresOrder × (0 < k)
-    staged a k (tree-refused {n = n} x) = let i = in-order s u calibrationName room n x in (in-front _ (in-map reading i), all-in (nonzero treeOrder refl) i)
-    staged a k (no-size t f) = (in-back here, lit< tt)
-    staged a k (endless t i) = (in-back (behind here), lit< tt)
-    staged a k (too-large t h) = (in-back (behind here), lit< tt)
+    staged a k (tree-refused {n = n} x) = let i = in-order s u calibrationName room n x in (in-left _ (in-map reading i), all-in (nonzero treeOrder refl) i)
+    staged a k (no-size t f) = (in-right (map reading treeOrder) here, lit< tt)
+    staged a k (endless t i) = (in-right (map reading treeOrder) (behind here), lit< tt)
+    staged a k (too-large t h) = (in-right (map reading treeOrder) (behind here), lit< tt)
 
     once : (a : PicometresStage) (n m : ℕ) → Q a n → Q a m → n ≡ m
     once a n m (tree-refused x) (tree-refused y) = refl

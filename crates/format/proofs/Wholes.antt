@@ -122,6 +122,14 @@ pub no-u64 : (n : ℕ) → 2 ^ 64 ≤ n → inU64 (pos n) ≡ none
 unfolding inU64
 no-u64 n h = rw (le-ltb n (2 ^ 64) h) refl
 
+pub none-u64 : (n : ℕ) → inU64 (pos n) ≡ none → 2 ^ 64 ≤ n
+unfolding inU64
+none-u64 n = go (ltb n (2 ^ 64)) refl
+  where
+    go : (b : Bool) → ltb n (2 ^ 64) ≡ b → cond b (some n) none ≡ none → 2 ^ 64 ≤ n
+    go true h e = absurd (none≢some (sym e))
+    go false h e = ltb-false n (2 ^ 64) h
+
 pub unsigned-of : (v : Value) → States (unsigned v) (ReadsUnsigned v)
 unfolding unsigned
 unsigned-of v = record { holds = there; only = back }

@@ -196,4 +196,4 @@ pub record Picometres : Type 0 where
   pub size-once : (file : List ℕ) (u : Summary) (n m : ℕ) → SizeIs file u n → SizeIs file u m → n ≡ m
   -- beside an opening with a table as long
   pub opened-size : (file table : List ℕ) → openCall file table .number ≡ 0
-      → SizeTold (openCall file table .summary) (picometresCall file (openCall file table .summary) table)
+      → SizeTold file (openCall file table .summary) (picometresCall file (openCall file table .summary) table)

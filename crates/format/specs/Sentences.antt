@@ -8,8 +8,9 @@ use lib.ListN.{length, take, drop}
 use lib.Ieee.{Float}
 use Rattle.format.specs.Bytes.{zeros, ascii}
 use Rattle.format.specs.Chunks.{dataIn}
-use Rattle.format.specs.Values.{double, level}
-use Rattle.format.specs.Numbers.{narrow}
+use Rattle.format.specs.Values.{Value, double, level}
+use Rattle.format.specs.Numbers.{float, narrow}
+use Rattle.format.specs.Calibration.{aboveZero}
 use Rattle.format.specs.Picometres.{picometres}
 use Rattle.format.specs.Attributes.{planeBytes}
 use Rattle.format.specs.Frames.{seqIndex}
@@ -27,6 +28,7 @@ use Rattle.format.specs.Grammar.Table.{Enough}
 use Rattle.format.specs.Refused.Open.{attributes, needed, TreeAt, TooMany, SizesAt, ExperimentAt}
 use Rattle.format.specs.Refused.Plane.{Within, FrameData, PlaneRefusal, Copied}
 use Rattle.format.specs.Refused.Tree.{NameData, Tabled}
+use Rattle.format.specs.Refused.Picometres.{SizeAt}
 use Rattle.format.specs.declared.Range.{Range}
 use Rattle.format.specs.declared.Entry.{Entry}
 use Rattle.format.specs.declared.Loop.{Loop}
@@ -47,7 +49,7 @@ None Refusal = (n : ℕ) → Refusal n → ⊥
 abbrev pub AcceptedUnless : (ℕ → Type 0) → ℕ → Type 0
 AcceptedUnless Refusal n = (n ≡ 0) ↔ None Refusal
 
--- at some of a call's stages the number is refused
+-- some stage of a call refuses with the number
 abbrev pub AtSome : {A : Type 0} → (A → ℕ → Type 0) → ℕ → Type 0
 AtSome {A = A} P n = (a : A) × P a n
 
@@ -148,9 +150,17 @@ WholeTyped file u =
 
 -- ---- change request 5, "Pixel size in whole picometres"
 
--- What a picometres call says of a file beside the summary u that opening gave: where u states a size, it is the f32 of the double whose picometres are told,
--- or of which a u64 has none (28); where u states none, the call is refused, and not with 28.
-pub data SizeTold (u : Summary) (said : Sized) : Type 0 where
-  stated : (x : Float) → u .calibration ≡ 1 → u .x ≡ narrow x → said .number ≡ 0 → picometres x ≡ some (said .picometres) → SizeTold u said
-  over : (x : Float) → u .calibration ≡ 1 → u .x ≡ narrow x → said .number ≡ why.sizeRange → picometres x ≡ none → SizeTold u said
-  unstated : (u .calibration ≡ 1 → ⊥) → Refuses (said .number) → (said .number ≡ why.sizeRange → ⊥) → SizeTold u said
+-- the summary u states the size of the file in f32, and x is that size, as it is read from the value of the field
+pub record StatedSize (file : List ℕ) (u : Summary) (x : Float) : Type 0 where
+  pub value : Value
+  pub there : SizeAt file u value
+  pub read : aboveZero (float value) ≡ some x
+  pub state : u .calibration ≡ 1
+  pub in-f32 : u .x ≡ narrow x
+
+-- What a picometres call says of a file beside the summary u that opening gave: where u states a size, its picometres, or 28 where a u64 does not hold them;
+-- where u states none, the call is refused, and not with 28.
+pub data SizeTold (file : List ℕ) (u : Summary) (said : Sized) : Type 0 where
+  stated : {x : Float} → StatedSize file u x → said .number ≡ 0 → picometres x ≡ some (said .picometres) → SizeTold file u said
+  over : {x : Float} → StatedSize file u x → said .number ≡ why.sizeRange → picometres x ≡ none → SizeTold file u said
+  unstated : (u .calibration ≡ 1 → ⊥) → Refuses (said .number) → (said .number ≡ why.sizeRange → ⊥) → SizeTold file u said
