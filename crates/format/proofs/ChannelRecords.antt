@@ -1,6 +1,6 @@
 -- The row that an accepted channels call leaves is the one that the rules say, and they say no other; a refused one leaves empty records. Assumes nothing.
 use Prim.Native.Nat.{ℕ, zero, suc, _≤_, _<_}
-use mathlib.Core.Path.{_≡_, refl, sym, ap, _∙_, subst}
+use mathlib.Core.Path.{_≡_, refl, sym, _∙_, subst}
 use mathlib.Core.Logic.{_⊎_, inl, inr, ⊎-elim}
 use mathlib.Core.Bool.{Bool, true, false, cond}
 use mathlib.Core.Option.{some}
@@ -13,9 +13,9 @@ use borrow.Author.Tests.{eqb-false, ltb-true, ltb-false, leb-true, leb-false}
 use Rattle.format.proofs.Answers.{none≢some, refused≢given, given-inj, refuseIf-given, andThen-given}
 use Rattle.format.proofs.Orders.{decides-given, nonzero}
 use Rattle.format.proofs.Trees.{passed-read}
-use Rattle.format.proofs.Entries.{data-read, read-data, tree-once}
-use Rattle.format.proofs.Named.{named-read, read-named, tree-given, given-tree, tree-means}
-use Rattle.format.proofs.TreeCalls.{read-short}
+use Rattle.format.proofs.Entries.{read-data, tree-once}
+use Rattle.format.proofs.Named.{named-read, given-tree, tree-means}
+use Rattle.format.proofs.TreeCalls.{read-short, named-whole}
 use Rattle.format.proofs.Means.{Means}
 use Rattle.format.proofs.Covered.{covered-length}
 use Rattle.format.proofs.PlaneRecords.{record-read, record-once, planes-read, planes-once, covered-falls, falls-covered}
@@ -27,12 +27,10 @@ use Rattle.format.specs.Trees.{roomIn, treeIn, namedTree}
 use Rattle.format.specs.Channels.{emptyChannel, channelOf, PlaneRecord, planeRecord, covered, planeRecords, fitted}
 use Rattle.format.specs.Summary.{badSummary, mapOf}
 use Rattle.format.specs.Calls.Channels.{recordsBy, recordsOf, rowBy, channelsCall}
-use Rattle.format.specs.Grammar.Trees.{Tree}
 use Rattle.format.specs.Grammar.Channels.{Empty, Record, FallsTo}
-use Rattle.format.specs.Refused.Tree.{NameData, TableShort}
+use Rattle.format.specs.Refused.Tree.{TableShort}
 use Rattle.format.specs.Refused.Channels.{row as row-short, channelsOrder, PlanesIn, NoTree}
 use Rattle.format.specs.Refused.Channels.{RecordAt, of-plane, of-none, unstated, surplus, Recorded, Emptied}
-use Rattle.format.specs.declared.Range.{Range}
 use Rattle.format.specs.declared.Entry.{Entry}
 use Rattle.format.specs.declared.Channel.{Channel}
 use Rattle.format.specs.declared.Summary.{Summary}
@@ -94,8 +92,7 @@ module _ (s : List ℕ) (u : Summary) where
       where
         go : (x : Answer (List Entry)) → namedTree s (mapOf s u) es room planesName ≡ x → recordsBy s x ≡ given ps → PlanesRead s u ps
         go (given ts) q e =
-            let (r, x, t, h) = tree-given s (mapOf s u) es planesName room ts q in
-            let c = data-read s u es map-read planesName r (read-named s (mapOf s u) es planesName r x) in
+            let (r, c, t, h) = named-whole s u planesName room es map-read ts q in
             subst (PlanesRead s u) (given-inj e) (read (record { place = r; chunk = c; tree = t; planes = planes-read s ts (tree-means s r ts t) }))
         go (refused k) q e = by (eqb k why.table) refl e
           where

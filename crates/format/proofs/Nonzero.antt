@@ -7,7 +7,8 @@ use mathlib.Core.List.{List, [], _∷_}
 use lib.Dec.{ltb, eqb, lit<}
 use lib.IntN.{ℤ, pos, negsuc}
 use Rattle.format.proofs.Answers.{Numbered, NotZero, refusal, answer, andThen-numbered}
-use Rattle.format.proofs.Orders.{nonzero, all-in}
+use Rattle.format.proofs.Lists.{all-in}
+use Rattle.format.proofs.Orders.{nonzero}
 use Rattle.format.proofs.Stages.{decides-numbered}
 use Rattle.format.proofs.Trees.{fault-number, treeFaults}
 use Rattle.format.proofs.LoopFaults.{walk-number, judge-number}
@@ -89,7 +90,7 @@ stage-some s room a n (no-map x f) = lit< tt
 stage-some s room a n (no-entry x f) = lit< tt
 stage-some s room a n (no-chunk x l f) = lit< tt
 stage-some s room a n (table-short x) = lit< tt
-stage-some s room a n (tree-fault {r = r} x f) = all-in (nonzero treeFaults refl) (fault-number s r n f)
+stage-some s room a n (tree-fault {r = r} x f) = all-in (fault-number s r n f) (nonzero treeFaults refl)
 stage-some s room a n (no-sizes x f) = lit< tt
 stage-some s room a n (compressed x f) = lit< tt
 stage-some s room a n (wrong-bits x f) = lit< tt

@@ -9,16 +9,15 @@ use lib.Dec.{eqb, ltb}
 use lib.ListN.{length}
 use lib.Ieee.{Float}
 use Rattle.format.proofs.Answers.{refused≢given, given-inj, andThen-given, refuseIf-given}
-use Rattle.format.proofs.Orders.{decides-holds, all-in, nonzero, not-in}
+use Rattle.format.proofs.Orders.{decides-holds, nonzero, not-in}
+use Rattle.format.proofs.Lists.{all-in}
 use Rattle.format.proofs.Summaries.{read-sound}
 use Rattle.format.proofs.Sounds.{joined-sound}
 use Rattle.format.proofs.Files.{opened-iff-joined}
 use Rattle.format.proofs.Demands.{opened-given}
-use Rattle.format.proofs.TreeCalls.{in-order, named-decides}
+use Rattle.format.proofs.TreeCalls.{in-order, named-decides, named-whole}
 use Rattle.format.proofs.PicometresCalls.{calibrationName, means, size-found}
 use Rattle.format.proofs.Picometres.{sizeOf}
-use Rattle.format.proofs.Named.{tree-given, read-named}
-use Rattle.format.proofs.Entries.{data-read}
 use Rattle.format.specs.Answer.{Answer, refused, given, refuseIf, andThen, orRefuse, numberOf}
 use Rattle.format.specs.Bytes.{ascii, most64}
 use Rattle.format.specs.Chunks.{dataIn}
@@ -59,7 +58,7 @@ module _ (s : List ℕ) (u : Summary) (room : ℕ) (es : List MapEntry) (map : m
   tree-other : (n : ℕ) → namedTree s (mapOf s u) es room calibrationName ≡ refused n → Other n
   tree-other n e =
       let i = in-order s u calibrationName room n (decides-holds (named-decides s u calibrationName room es map) e) in
-      let h = all-in (nonzero treeOrder refl) i in
+      let h = all-in i (nonzero treeOrder refl) in
       (λ z. omega arith, λ z. not-in why.sizeRange treeOrder refl (rw z at i))
 
   by-tree : (z : Option Float) (c : Calibration) (t : Answer (List Entry)) → namedTree s (mapOf s u) es room calibrationName ≡ t
@@ -69,8 +68,8 @@ module _ (s : List ℕ) (u : Summary) (room : ℕ) (es : List MapEntry) (map : m
     where
       tree : CalibrationTree s u ts
       tree =
-          let (r, x, t, h) = tree-given s (mapOf s u) es calibrationName room ts q in
-          record { place = r; chunk = data-read s u es map calibrationName r (read-named s (mapOf s u) es calibrationName r x); tree = t }
+          let (r, c, t, h) = named-whole s u calibrationName room es map ts q in
+          record { place = r; chunk = c; tree = t }
 
       by-size : (o : Option Float) → pixelSize s ts ≡ o → given (stated o z) ≡ given c
           → Told s u c (andThen (orRefuse o why.missing) λ x. orRefuse (picometres x) why.sizeRange)

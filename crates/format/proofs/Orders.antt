@@ -9,6 +9,7 @@ use native.Mathlib.Omega.{arith}
 use lib.Dec.{eqb, ltb}
 use borrow.Author.Tests.{eqb-false, ltb-true, ltb-false}
 use Rattle.format.proofs.Tests.{and-left, and-right}
+use Rattle.format.proofs.Lists.{all-in}
 use Rattle.format.proofs.Answers.{Numbered, refusal, answer, NotZero}
 use Rattle.format.specs.Answer.{Answer, refused, given, refuseIf, andThen, numberOf}
 use Rattle.format.specs.Grammar.Lists.{All, over, more, In, here, behind}
@@ -103,14 +104,9 @@ all-by f g (n ∷ ns) e = more (g n (and-left (f n) (each f ns) e)) (all-by f g 
 pub nonzero : (ns : List ℕ) → each (ltb 0) ns ≡ true → All NotZero ns
 nonzero ns e = all-by (ltb 0) (ltb-true 0) ns e
 
--- what holds of each holds of one
-pub all-in : {Q : ℕ → Type 0} {ns : List ℕ} {n : ℕ} → All Q ns → In n ns → Q n
-all-in (more q qs) here = q
-all-in (more q qs) (behind i) = all-in qs i
-
 -- a number that is not among them
 pub not-in : (k : ℕ) (ns : List ℕ) → each (λ n. not (eqb k n)) ns ≡ true → In k ns → ⊥
-not-in k ns e i = all-in (all-by {Q = λ n. k ≡ n → ⊥} (λ n. not (eqb k n)) (λ n. other n (eqb k n) refl) ns e) i refl
+not-in k ns e i = all-in i (all-by {Q = λ n. k ≡ n → ⊥} (λ n. not (eqb k n)) (λ n. other n (eqb k n) refl) ns e) refl
   where
     other : (n : ℕ) (b : Bool) → eqb k n ≡ b → not b ≡ true → k ≡ n → ⊥
     other n true q f = absurd (false≢true f)

@@ -15,8 +15,8 @@ use Rattle.format.proofs.Means.{Means}
 use Rattle.format.proofs.Fields.{field-in, level-at}
 use Rattle.format.proofs.Named.{tree-means}
 use Rattle.format.proofs.Entries.{tree-once}
-use Rattle.format.proofs.Orders.{all-in, nonzero}
-use Rattle.format.proofs.Lists.{in-left, in-right, in-map}
+use Rattle.format.proofs.Orders.{nonzero}
+use Rattle.format.proofs.Lists.{all-in, in-left, in-right, in-map}
 use Rattle.format.proofs.Stages.{DecidesAt, stage-one, decides-then, decides-first, decides-numbered, decides-staged, accepted-at, first-once}
 use Rattle.format.proofs.TreeCalls.{in-order, tree-decides, tree-whole}
 use Rattle.format.proofs.Picometres.{sizeOf, size-read, read-size, size-is, endless-read, above-read, read-above, in-picometres-once}
@@ -162,7 +162,7 @@ module _ (s : List ℕ) (u : Summary) where
 
     -- every refusal is of a stage in the order, and has a number
     staged : (a : PicometresStage) (k : ℕ) → Q a k → In a picometresOrder × (0 < k)
-    staged a k (tree-refused {n = n} x) = let i = in-order s u calibrationName room n x in (in-left _ (in-map reading i), all-in (nonzero treeOrder refl) i)
+    staged a k (tree-refused {n = n} x) = let i = in-order s u calibrationName room n x in (in-left _ (in-map reading i), all-in i (nonzero treeOrder refl))
     staged a k (no-size t f) = (in-right (map reading treeOrder) here, lit< tt)
     staged a k (endless t i) = (in-right (map reading treeOrder) (behind here), lit< tt)
     staged a k (too-large t h) = (in-right (map reading treeOrder) (behind here), lit< tt)

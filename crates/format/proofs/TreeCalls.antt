@@ -10,8 +10,10 @@ use lib.ListN.{length, take}
 use borrow.Author.Tests.{leb-true, leb-false, lt-leb}
 use Rattle.format.proofs.Tests.{and-left, and-right}
 use Rattle.format.proofs.Answers.{refuseIf-given, andThen-given, orRefuse-given, found, go-on, orRefuse-numbered}
+use Rattle.format.proofs.Lists.{all-in}
 use Rattle.format.proofs.Reading.{whole-read}
-use Rattle.format.proofs.Orders.{Decides, stops, goes, decides-if, decides-one, decides-then, decides-none, decides-only, decides-first, decides-given, all-by, all-in, nonzero, accepted-iff}
+use Rattle.format.proofs.Orders.{Decides, stops, goes, decides-if, decides-one, decides-then, decides-none}
+use Rattle.format.proofs.Orders.{decides-only, decides-first, decides-given, all-by, nonzero, accepted-iff}
 use Rattle.format.proofs.Chunks.{chunk-read, chunk-numbered}
 use Rattle.format.proofs.Maps.{map-read, read-map, map-numbered}
 use Rattle.format.proofs.Summaries.{sound-read, unsound}
@@ -43,7 +45,7 @@ is-low : (n : ℕ) → (leb 6 n && leb n 10) ≡ true → Low n
 is-low n e = (leb-true _ _ (and-left (leb 6 n) (leb n 10) e), leb-true _ _ (and-right (leb 6 n) (leb n 10) e))
 
 fault-range : (n : ℕ) → In n treeFaults → Low n
-fault-range n i = all-in {Q = Low} (all-by (λ n. leb 6 n && leb n 10) is-low treeFaults refl) i
+fault-range n i = all-in {P = Low} i (all-by (λ n. leb 6 n && leb n 10) is-low treeFaults refl)
 
 no-fault : (s : List ℕ) (r : Range) (n : ℕ) → (6 ≤ n → n ≤ 10 → ⊥) → Faulty s r n → ⊥
 no-fault s r n f x = let (a, b) = fault-range n (fault-number s r n x) in f a b
@@ -133,6 +135,16 @@ module _ (s : List ℕ) (u : Summary) (name : List ℕ) (room : ℕ) where
               stops
               (table (record { place = r; chunk = x; count = length (treeIn s r .entries); passed = passed-read s r; too-many = leb-false (length (treeIn s r .entries)) room q }))
 
+    pub named-whole : (ts : List Entry) → namedTree s (mapOf s u) es room name ≡ given ts
+        → (r : Range) × NameData s u name r × Tree s r ts × (length ts ≤ room)
+    unfolding namedTree
+    named-whole ts q =
+        let (r, f, g) = andThen-given (namedChunk s (mapOf s u) es name) _ q in
+        let (h, p, t) = whole-read room (treeIn s r) ts g in
+        let x = tree-read s r p (ap (λ (z : Read). z .stop) t) in
+        let e₂ : treeIn s r .entries ≡ ts = ap (λ (z : Read). z .entries) t in
+        (r, data-read s u es e name r f, subst (Tree s r) e₂ x, rw e₂ at h)
+
     pub named-decides : Decides R (why.missing ∷ why.chunk ∷ why.table ∷ treeFaults) (namedTree s (mapOf s u) es room name)
     unfolding namedTree namedChunk
     named-decides =
@@ -157,16 +169,12 @@ module _ (s : List ℕ) (u : Summary) (name : List ℕ) (room : ℕ) where
 
   -- ---- a tree that is read whole
 
-  pub tree-whole : (es : List Entry) → treeNamed s u name room ≡ given es → (r : Range) × NameData s u name r × Tree s r es × (length es ≤ room)
-  unfolding treeNamed namedTree
-  tree-whole es e =
+  pub tree-whole : (ts : List Entry) → treeNamed s u name room ≡ given ts → (r : Range) × NameData s u name r × Tree s r ts × (length ts ≤ room)
+  unfolding treeNamed
+  tree-whole ts e =
       let (f₁, e₁) = refuseIf-given (badSummary s u) why.summary _ e in
-      let (ms, f₂, e₂) = andThen-given (mapEntries (mapOf s u)) _ e₁ in
-      let (r, f₃, e₃) = andThen-given (namedChunk s (mapOf s u) ms name) _ e₂ in
-      let (h, p, q) = whole-read room (treeIn s r) es e₃ in
-      let x = tree-read s r p (ap (λ (z : Read). z .stop) q) in
-      let e₄ : treeIn s r .entries ≡ es = ap (λ (z : Read). z .entries) q in
-      (r, data-read s u ms f₂ name r f₃, subst (Tree s r) e₄ x, rw e₄ at h)
+      let (es, f₂, e₂) = andThen-given (mapEntries (mapOf s u)) _ e₁ in
+      named-whole es f₂ ts e₂
 
 by-number : (n : ℕ) (x : Answer (List Entry)) → treeBy n x .number ≡ numberOf x
 unfolding treeBy numberOf
