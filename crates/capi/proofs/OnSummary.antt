@@ -6,7 +6,7 @@ use mathlib.Core.Option.{Option, none, some}
 use mathlib.Core.List.{List}
 use native.Mathlib.Omega.{arith}
 use Rattle.format.specs.Calls.Plane.{Outcome}
-use Rattle.format.specs.Calls.Picometres.{Sized}
+use Rattle.format.specs.Calls.Picometres.{SizeOutcome}
 use Rattle.format.specs.Refusals as why
 use Rattle.format.specs.declared.Summary.{Summary}
 use Rattle.format.specs.Sentences.{None, AcceptedUnless}
@@ -69,6 +69,6 @@ pub both : {o p : Outcome} {n : ℕ} {b : List ℕ} → p ≡ o → n ≡ o .num
 both e f g = rw e (f, g)
 
 -- number, size and table of a picometres call
-pub all-three : {o p : Sized} {n m : ℕ} {b : List ℕ} → p ≡ o → n ≡ o .number → m ≡ o .picometres → b ≡ o .table
+pub all-three : {o p : SizeOutcome} {n m : ℕ} {b : List ℕ} → p ≡ o → n ≡ o .number → m ≡ o .picometres → b ≡ o .table
     → (n ≡ p .number) × ((m ≡ p .picometres) × (b ≡ p .table))
 all-three e f g h = rw e (f, (g, h))

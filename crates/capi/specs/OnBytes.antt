@@ -14,7 +14,7 @@ use Rattle.format.specs.Calls.Tree.{treeCall}
 use Rattle.format.specs.Channels.{emptyChannel}
 use Rattle.format.specs.Calls.Channels.{channelsCall}
 use Rattle.format.specs.Calls.Register.{registerCall}
-use Rattle.format.specs.Calls.Picometres.{Sized, picometresCall}
+use Rattle.format.specs.Calls.Picometres.{SizeOutcome, picometresCall}
 use Rattle.format.specs.declared.Summary.{Summary}
 use Rattle.layout.specs.Layout.{summaryFrom, channelRowBytes}
 
@@ -55,7 +55,7 @@ unfolding onSummary summaryFrom registerCall
 registerOn file summary buffer = onSummary (unsaid buffer) (λ u. registerCall file u buffer) (summaryFrom summary)
 
 -- the pixel size: 0 where the bytes say no summary
-unfoldable pub picometresOn : List ℕ → List ℕ → List ℕ → Sized
+unfoldable pub picometresOn : List ℕ → List ℕ → List ℕ → SizeOutcome
 unfolding onSummary summaryFrom picometresCall
 picometresOn file summary table =
     onSummary (record { number = why.summary; picometres = 0; table = zeros (length table) }) (λ u. picometresCall file u table) (summaryFrom summary)

@@ -33,7 +33,7 @@ use Rattle.format.specs.Picometres.{picometres}
 use Rattle.format.specs.Summary.{badSummary, summaryOf, mapOf}
 use Rattle.format.specs.Calls.Open.{opened, openCall, summaryOrZero}
 use Rattle.format.specs.Calls.Tree.{treeNamed}
-use Rattle.format.specs.Calls.Picometres.{picometresIn, picometresOf, orZero, picometresCall}
+use Rattle.format.specs.Calls.Picometres.{picometresIn, picometresOf, sizeOrZero, picometresCall}
 use Rattle.format.specs.Refused.Tree.{treeOrder}
 use Rattle.format.specs.Refused.Picometres.{CalibrationTree, SizeAt}
 use Rattle.format.specs.Sentences.{StatedSize, SizeTold}
@@ -117,7 +117,7 @@ opened-told s room u e =
 -- and what the call says of it
 by-answer : (file table : List ℕ) (u : Summary) (c : Calibration) → u .calibration ≡ c .state → u .x ≡ c .size
     → Told file u c (picometresOf file u (roomIn (length table))) → SizeTold file u (picometresCall file u table)
-unfolding picometresCall numberOf orZero orRefuse
+unfolding picometresCall numberOf sizeOrZero orRefuse
 by-answer file table u c p q (size-of x v t g h k a) = go (picometres x) refl
   where
     is : StatedSize file u x

@@ -29,7 +29,7 @@ use Rattle.format.specs.Numbers.{float}
 use Rattle.format.specs.Calibration.{aboveZero, pixelSize}
 use Rattle.format.specs.Picometres.{picometres}
 use Rattle.format.specs.Calls.Tree.{treeNamed}
-use Rattle.format.specs.Calls.Picometres.{picometresIn, picometresOf, orZero, picometresCall}
+use Rattle.format.specs.Calls.Picometres.{picometresIn, picometresOf, sizeOrZero, picometresCall}
 use Rattle.format.specs.Grammar.Lists.{In, here, behind}
 use Rattle.format.specs.Grammar.Picometres.{SizeStated}
 use Rattle.format.specs.Refused.Order.{FirstAt}
@@ -210,20 +210,20 @@ module _ (s : List ℕ) (u : Summary) (bytes : List ℕ) where
 
   -- A refused call answers 0, and an accepted one the size by the rules.
   pub picometres-refused : (picometresCall s u bytes .number ≡ 0 → ⊥) → picometresCall s u bytes .picometres ≡ 0
-  unfolding picometresCall numberOf orZero
+  unfolding picometresCall numberOf sizeOrZero
   picometres-refused f = go (picometresOf s u (roomIn (length bytes))) f
     where
-      go : (x : Answer ℕ) → (numberOf x ≡ 0 → ⊥) → orZero x ≡ 0
+      go : (x : Answer ℕ) → (numberOf x ≡ 0 → ⊥) → sizeOrZero x ≡ 0
       go (refused n) f = refl
       go (given n) f = absurd (f refl)
 
   pub picometres-size : picometresCall s u bytes .number ≡ 0 → SizeIs s u (picometresCall s u bytes .picometres)
-  unfolding picometresCall numberOf orZero
+  unfolding picometresCall numberOf sizeOrZero
   picometres-size e = go (picometresOf s u room) refl (decides-numbered (λ a n q. staged s u room a n q .1) (picometres-decides s u room)) e
     where
       room : ℕ
       room = roomIn (length bytes)
 
-      go : (x : Answer ℕ) → picometresOf s u room ≡ x → Numbered (λ n. 0 < n) x → numberOf x ≡ 0 → SizeIs s u (orZero x)
+      go : (x : Answer ℕ) → picometresOf s u room ≡ x → Numbered (λ n. 0 < n) x → numberOf x ≡ 0 → SizeIs s u (sizeOrZero x)
       go x q (refusal h) e = absurd (omega arith)
       go x q (answer {a = n}) e = given-size s u room n q

@@ -18,7 +18,7 @@ use Rattle.format.specs.Summary.{shapeOf, loopsOf}
 use Rattle.format.specs.Refusals as why
 use Rattle.format.specs.Sheets.{sheet}
 use Rattle.format.specs.Calls.Plane.{planeCall}
-use Rattle.format.specs.Calls.Picometres.{Sized}
+use Rattle.format.specs.Calls.Picometres.{SizeOutcome}
 use Rattle.format.specs.Grammar.Sheets.{SheetOf}
 use Rattle.format.specs.Grammar.Trees.{Tree}
 use Rattle.format.specs.Grammar.Values.{Field}
@@ -160,7 +160,7 @@ pub record StatedSize (file : List ℕ) (u : Summary) (x : Float) : Type 0 where
 
 -- What a picometres call says of a file beside the summary u that opening gave: where u states a size, its picometres, or 28 where a u64 does not hold them;
 -- where u states none, the call is refused, and not with 28.
-pub data SizeTold (file : List ℕ) (u : Summary) (said : Sized) : Type 0 where
+pub data SizeTold (file : List ℕ) (u : Summary) (said : SizeOutcome) : Type 0 where
   stated : {x : Float} → StatedSize file u x → said .number ≡ 0 → picometres x ≡ some (said .picometres) → SizeTold file u said
   over : {x : Float} → StatedSize file u x → said .number ≡ why.sizeRange → picometres x ≡ none → SizeTold file u said
   unstated : (u .calibration ≡ 1 → ⊥) → Refuses (said .number) → (said .number ≡ why.sizeRange → ⊥) → SizeTold file u said

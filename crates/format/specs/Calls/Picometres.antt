@@ -23,18 +23,18 @@ unfolding picometresIn treeNamed ascii
 picometresOf s u room = andThen (treeNamed s u (ascii "ImageCalibrationLV|0!") room) (picometresIn s)
 
 -- a refused call answers 0
-unfoldable pub orZero : Answer ℕ → ℕ
-orZero (refused n) = 0
-orZero (given n) = n
+unfoldable pub sizeOrZero : Answer ℕ → ℕ
+sizeOrZero (refused n) = 0
+sizeOrZero (given n) = n
 
 -- the call's number, the size, and what the table holds afterwards
-pub record Sized : Type 0 where
+pub record SizeOutcome : Type 0 where
   pub number : ℕ
   pub picometres : ℕ
   pub table : List ℕ
 
-unfoldable pub picometresCall : List ℕ → Summary → List ℕ → Sized
-unfolding picometresOf orZero numberOf zeros
+unfoldable pub picometresCall : List ℕ → Summary → List ℕ → SizeOutcome
+unfolding picometresOf sizeOrZero numberOf zeros
 picometresCall file u table =
     let answer = picometresOf file u (roomIn (length table)) in
-    record { number = numberOf answer; picometres = orZero answer; table = zeros (length table) }
+    record { number = numberOf answer; picometres = sizeOrZero answer; table = zeros (length table) }

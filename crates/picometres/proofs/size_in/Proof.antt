@@ -1,7 +1,7 @@
 -- `size_in`: no size above 0, a size that no u64 holds, or the size.
 use mathlib.Core.Path.{refl}
 use Rattle.format.specs.Answer.{andThen, orRefuse, numberOf}
-use Rattle.format.specs.Calls.Picometres.{picometresIn, orZero}
+use Rattle.format.specs.Calls.Picometres.{picometresIn, sizeOrZero}
 use borrow.Author.Needs.{needs}
 use Rattle.picometres.proofs.size_in.Statement.{statement}
 use Rattle.picometres.proofs.size_in.Tie as tie
@@ -43,7 +43,7 @@ returns-2 c =
     rw (← s, k .x .given .1, ← p .picometres .ensures, c .before .enum-told2 .given .1) (c .refused2 .ensures)
 
 returns-3 : tie.Need-returns-3
-unfolding picometresIn andThen orRefuse numberOf orZero
+unfolding picometresIn andThen orRefuse numberOf sizeOrZero
 returns-3 c =
     let p = c .before .before .before in
     let k = p .before .before in
