@@ -141,6 +141,26 @@ impl<'f> Case<'f> {
         race(repetitions, batch, turns)
     }
 
+    /// The pixel size in picometres. memcpy copies the map.
+    fn picometres(&self, repetitions: u32, batch: u32) -> Best {
+        let map = self.map();
+        let size = self.proved.picometres().expect("a pixel size");
+        let mut copy = vec![0; map.len()];
+        let mut table = vec![1; TABLE_BYTES];
+        let turns = [
+            turn(move || copied(map, &mut copy)),
+            turn(move || assert_eq!(black_box(self.proved.picometres()), Ok(size))),
+            turn(move || {
+                let told = second::picometres(self.file, &self.second, black_box(&mut table));
+                assert_eq!(told, (0, size))
+            }),
+            None,
+            None,
+            None,
+        ];
+        race(repetitions, batch, turns)
+    }
+
     fn register_bytes(&self) -> usize {
         self.proved.summary().frames() as usize * FRAME_BYTES
     }
@@ -219,7 +239,7 @@ pub fn row_starts(case: &Case) -> Vec<usize> {
     offsets.map(|offset| start(offset as usize)).collect()
 }
 
-/// Opening a roller, reading all of its planes, and its register.
+/// Opening a roller, its register and its pixel size, and reading all of its planes.
 pub fn roller(side: u32, original: Option<Original>, repetitions: u32) -> Vec<Row> {
     let file = sample::roller(24, 11, 2, side, side);
     let case = Case::new(&file, original);
@@ -237,10 +257,12 @@ pub fn roller(side: u32, original: Option<Original>, repetitions: u32) -> Vec<Ro
     let bytes = case.proved.summary().planes() as usize * case.plane_bytes();
     let opened = case.open(original, 3 * repetitions, OFTEN);
     let register = case.register(3 * repetitions, OFTEN);
+    let size = case.picometres(3 * repetitions, OFTEN);
     let planes = all_planes(&case, original, repetitions);
     vec![
         row("open a roller", map, opened, None),
         row("register of a roller", map, register, None),
+        row("pixel size of a roller", map, size, None),
         row("open, then all 528 planes", bytes, planes, Some(half)),
     ]
 }

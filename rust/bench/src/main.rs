@@ -174,7 +174,7 @@ fn times(options: &Options, others: Others) -> Vec<Verdict> {
     }
     println!();
     println!("'bytes' are what memcpy copies: those of the planes, of the map, of the file with names. The original has no register:");
-    println!("its map is asked for each frame; nor has it sheets: these stand beside the proved reader's plane.");
+    println!("its map is asked for each frame; nor has it sheets: these stand beside the proved reader's plane; nor picometres.");
     let so_many = |which| verdicts.iter().filter(|&&verdict| verdict == which).count();
     let [met, missed] = [Verdict::Met, Verdict::Missed].map(so_many);
     let not_run = so_many(Verdict::NotRun);

@@ -28,6 +28,7 @@ fn every_case_is_in_the_table() {
         "1.1 x plane: ",
         "open a roller, 4 x 4",
         "register of a roller",
+        "pixel size of a roller",
         "open, then all 528 planes",
         "open a map of 100 entries",
         "register of 98 frames",
