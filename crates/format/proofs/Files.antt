@@ -47,7 +47,62 @@ use Rattle.format.specs.declared.Entry.{Entry}
 use Rattle.format.specs.declared.Loop.{Loop}
 use Rattle.format.specs.declared.Summary.{Summary}
 
+-- what each step of an opening gave, where its answer is the summary u
+pub record OpenedBy (s : List ℕ) (room : ℕ) (u : Summary) : Type 0 where
+  pub place : Range
+  pub entries : List MapEntry
+  pub attributes-tree : List Entry
+  pub sizes : Attributes
+  pub experiment-tree : List Entry
+  pub outermost : ℕ
+  pub loops : List Loop
+  pub calibrated : Calibration
+  pub range-found : mapRange s ≡ given place
+  pub map-read : mapEntries (dataIn s place) ≡ given entries
+  pub attributes-read : namedTree s (dataIn s place) entries room (ascii "ImageAttributesLV!") ≡ given attributes-tree
+  pub sizes-read : attributes s attributes-tree ≡ given sizes
+  pub experiment-read : namedTree s (dataIn s place) entries room (ascii "ImageMetadataLV!") ≡ given experiment-tree
+  pub level-found : asLevel (field s experiment-tree 0 (ascii "SLxExperiment")) ≡ some outermost
+  pub loops-read : experiment s experiment-tree outermost ≡ given loops
+  pub plane-most : planeBytes sizes ≤ most64
+  pub calibration-read : calibration s (dataIn s place) entries room (zFloat (zStep mostDepth s experiment-tree outermost)) ≡ given calibrated
+  pub summary-is : u ≡ summaryOf place sizes loops calibrated
+
 module _ (s : List ℕ) (room : ℕ) (u : Summary) where
+  pub opened-by : opened s room ≡ given u → OpenedBy s room u
+  unfolding opened
+  opened-by e =
+      let (r, f₁, e₁) = andThen-given (mapRange s) _ e in
+      let m = dataIn s r in
+      let (es, f₂, e₂) = andThen-given (mapEntries m) _ e₁ in
+      let (ats, f₃, e₃) = andThen-given (namedTree s m es room (ascii "ImageAttributesLV!")) _ e₂ in
+      let (a, f₄, e₄) = andThen-given (attributes s ats) _ e₃ in
+      let (ts, f₅, e₅) = andThen-given (namedTree s m es room (ascii "ImageMetadataLV!")) _ e₄ in
+      let (i, f₆, e₆) = andThen-given (orRefuse (asLevel (field s ts 0 (ascii "SLxExperiment"))) why.missing) _ e₅ in
+      let (ls, f₇, e₇) = andThen-given (experiment s ts i) _ e₆ in
+      let (f₈, e₈) = refuseIf-given (ltb most64 (planeBytes a)) why.frameShape _ e₇ in
+      let (c, f₉, e₉) = andThen-given (calibration s m es room (zFloat (zStep mostDepth s ts i))) _ e₈ in
+      record {
+        place = r;
+        entries = es;
+        attributes-tree = ats;
+        sizes = a;
+        experiment-tree = ts;
+        outermost = i;
+        loops = ls;
+        calibrated = c;
+        range-found = f₁;
+        map-read = f₂;
+        attributes-read = f₃;
+        sizes-read = f₄;
+        experiment-read = f₅;
+        level-found = orRefuse-given _ why.missing f₆;
+        loops-read = f₇;
+        plane-most = ltb-false most64 (planeBytes a) f₈;
+        calibration-read = f₉;
+        summary-is = sym (given-inj e₉);
+      }
+
   joined : (r : Range) (es : List MapEntry) (ats : List Entry) (a : Attributes) (ts : List Entry) (i : ℕ) (ls : List Loop) (z : Calibration) → Mapped s r es
       → namedTree s (dataIn s r) es room (ascii "ImageAttributesLV!") ≡ given ats → attributes s ats ≡ given a
       → namedTree s (dataIn s r) es room (ascii "ImageMetadataLV!") ≡ given ts
@@ -106,20 +161,13 @@ module _ (s : List ℕ) (room : ℕ) (u : Summary) where
           omega (arith, read-passed s q n y)
 
   joined-opened : opened s room ≡ given u → Joined s u × Enough s room
-  unfolding opened
   joined-opened e =
-      let (r, f₁, e₁) = andThen-given (mapRange s) _ e in
-      let m = dataIn s r in
-      let (es, f₂, e₂) = andThen-given (mapEntries m) _ e₁ in
-      let (ats, f₃, e₃) = andThen-given (namedTree s m es room (ascii "ImageAttributesLV!")) _ e₂ in
-      let (a, f₄, e₄) = andThen-given (attributes s ats) _ e₃ in
-      let (ts, f₅, e₅) = andThen-given (namedTree s m es room (ascii "ImageMetadataLV!")) _ e₄ in
-      let (i, f₆, e₆) = andThen-given (orRefuse (asLevel (field s ts 0 (ascii "SLxExperiment"))) why.missing) _ e₅ in
-      let (ls, f₇, e₇) = andThen-given (experiment s ts i) _ e₆ in
-      let (f₈, e₈) = refuseIf-given (ltb most64 (planeBytes a)) why.frameShape _ e₇ in
-      let (z, f₉, e₉) = andThen-given (calibration s m es room (zFloat (zStep mostDepth s ts i))) _ e₈ in
-      joined r es ats a ts i ls z (mapped-read s r es f₁ f₂) f₃ f₄ f₅ (orRefuse-given _ why.missing f₆) f₇
-      (ltb-false most64 (planeBytes a) f₈) (calibration-read s m es room (zStep mostDepth s ts i) z f₉) (sym (given-inj e₉))
+      let x = opened-by e in
+      let m = dataIn s (x .place) in
+      joined (x .place) (x .entries) (x .attributes-tree) (x .sizes) (x .experiment-tree) (x .outermost) (x .loops) (x .calibrated)
+      (mapped-read s (x .place) (x .entries) (x .range-found) (x .map-read)) (x .attributes-read) (x .sizes-read) (x .experiment-read) (x .level-found)
+      (x .loops-read) (x .plane-most)
+      (calibration-read s m (x .entries) room (zStep mostDepth s (x .experiment-tree) (x .outermost)) (x .calibrated) (x .calibration-read)) (x .summary-is)
 
   length-fits : Enough s room → (r : Range) (es : List MapEntry) (name : List ℕ) (q : Range) → Mapped s r es → TreeRead name → Named s (dataIn s r) es name q
       → length (treeIn s q .entries) ≤ room

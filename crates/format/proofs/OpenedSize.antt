@@ -5,30 +5,27 @@ use mathlib.Core.Bool.{Bool, true, false, cond}
 use mathlib.Core.Option.{Option, none, some}
 use mathlib.Core.List.{List}
 use native.Mathlib.Omega.{arith}
-use lib.Dec.{eqb, ltb}
+use lib.Dec.{eqb}
 use lib.ListN.{length}
 use lib.Ieee.{Float}
-use Rattle.format.proofs.Answers.{refused≢given, given-inj, andThen-given, refuseIf-given}
+use Rattle.format.proofs.Answers.{refused≢given, given-inj}
 use Rattle.format.proofs.Orders.{decides-holds, nonzero, not-in}
 use Rattle.format.proofs.Lists.{all-in}
 use Rattle.format.proofs.Summaries.{read-sound}
 use Rattle.format.proofs.Sounds.{joined-sound}
-use Rattle.format.proofs.Files.{opened-iff-joined}
+use Rattle.format.proofs.Files.{opened-iff-joined, opened-by}
 use Rattle.format.proofs.Demands.{opened-given}
 use Rattle.format.proofs.TreeCalls.{in-order, named-decides, named-whole}
 use Rattle.format.proofs.PicometresCalls.{calibrationName, means, size-found}
 use Rattle.format.proofs.Picometres.{sizeOf}
 use Rattle.format.specs.Answer.{Answer, refused, given, refuseIf, andThen, orRefuse, numberOf}
-use Rattle.format.specs.Bytes.{ascii, most64}
 use Rattle.format.specs.Chunks.{dataIn}
 use Rattle.format.specs.Refusals as why
-use Rattle.format.specs.Map.{MapEntry, mapEntries, mapRange}
-use Rattle.format.specs.Trees.{roomIn, mostDepth, namedTree}
-use Rattle.format.specs.Values.{Value, field, asLevel}
-use Rattle.format.specs.Attributes.{attributes, planeBytes}
-use Rattle.format.specs.Loops.{experiment}
+use Rattle.format.specs.Map.{MapEntry, mapEntries}
+use Rattle.format.specs.Trees.{roomIn, namedTree}
+use Rattle.format.specs.Values.{Value}
 use Rattle.format.specs.Numbers.{narrow}
-use Rattle.format.specs.Calibration.{zStep, zFloat, pixelSize, unstated, stated, calibrationBy, calibration}
+use Rattle.format.specs.Calibration.{pixelSize, unstated, stated, calibrationBy, calibration}
 use Rattle.format.specs.Picometres.{picometres}
 use Rattle.format.specs.Summary.{badSummary, summaryOf, mapOf}
 use Rattle.format.specs.Calls.Open.{opened, openCall, summaryOrZero}
@@ -94,21 +91,16 @@ module _ (s : List ℕ) (u : Summary) (room : ℕ) (es : List MapEntry) (map : m
 -- the summary of an opening
 opened-told : (s : List ℕ) (room : ℕ) (u : Summary) → opened s room ≡ given u
     → (c : Calibration) × (u .calibration ≡ c .state) × (u .x ≡ c .size) × Told s u c (picometresOf s u room)
-unfolding opened summaryOf
+unfolding summaryOf
 opened-told s room u e =
     let b = read-sound s u (joined-sound s u (opened-iff-joined s room u .0 e .0)) in
-    let (r, f₁, e₁) = andThen-given (mapRange s) _ e in
-    let m = dataIn s r in
-    let (es, f₂, e₂) = andThen-given (mapEntries m) _ e₁ in
-    let (ats, f₃, e₃) = andThen-given (namedTree s m es room (ascii "ImageAttributesLV!")) _ e₂ in
-    let (a, f₄, e₄) = andThen-given (attributes s ats) _ e₃ in
-    let (ts, f₅, e₅) = andThen-given (namedTree s m es room (ascii "ImageMetadataLV!")) _ e₄ in
-    let (i, f₆, e₆) = andThen-given (orRefuse (asLevel (field s ts 0 (ascii "SLxExperiment"))) why.missing) _ e₅ in
-    let (ls, f₇, e₇) = andThen-given (experiment s ts i) _ e₆ in
-    let (f₈, e₈) = refuseIf-given (ltb most64 (planeBytes a)) why.frameShape _ e₇ in
-    let (c, f₉, e₉) = andThen-given (calibration s m es room (zFloat (zStep mostDepth s ts i))) _ e₈ in
-    let q : summaryOf r a ls c ≡ u = given-inj e₉ in
-    (c, ap (λ (v : Summary). v .calibration) (sym q), ap (λ (v : Summary). v .x) (sym q), go r (ap (λ (v : Summary). v .map) q) es f₂ b _ c f₉)
+    let x = opened-by s room u e in
+    let q = x .summary-is in (
+      x .calibrated,
+      ap (λ (v : Summary). v .calibration) q,
+      ap (λ (v : Summary). v .x) q,
+      go (x .place) (sym (ap (λ (v : Summary). v .map) q)) (x .entries) (x .map-read) b _ (x .calibrated) (x .calibration-read),
+    )
   where
     go : (r : Range) → r ≡ u .map → (es : List MapEntry) → mapEntries (dataIn s r) ≡ given es → badSummary s u ≡ false → (z : Option Float) (c : Calibration)
         → calibration s (dataIn s r) es room z ≡ given c → Told s u c (picometresOf s u room)
