@@ -128,7 +128,7 @@ module _ (s : List ℕ) (u : Summary) where
         over : picometres x ≡ none → Q stages.range why.sizeRange
         over q = elim (read-size v x e) [
           | inl i ↦ endless there (i .0)
-          | inr (n, r, p) ↦ too-large (record { value = v; there = there; in-picometres = r }) (none-u64 n (sym p ∙ q))
+          | inr (n, r, p) ↦ let h = none-u64 n (sym p ∙ q) in too-large (record { value = v; there = there; in-picometres = r }) (omega arith)
         ]
 
         -- and one that a u64 holds is not refused
