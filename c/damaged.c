@@ -3,9 +3,10 @@
  *   damaged FILE ROUNDS SEED
  *
  * FILE is a good file of less than a megabyte, as `cargo run -p sample --example roller -- FILE 24 11 2 8 8` in rust/ writes one. Each round damages a copy of
- * it, and asks open, plane, sheet, tree, channels, register, the pixel size and the border call, with summaries that were opened and with damaged ones, and
- * with buffers of random lengths; a sheet that was written is read back, damaged and read again. A call that reads or writes past a buffer ends the program by
- * a signal; built with -fsanitize=address the program's own side is watched too. Exit status 0: nothing found.
+ * it, one of four also in a chunk's name or in where the map says that a chunk is, and asks open, plane, sheet, tree, channels, register, the pixel size and
+ * the border call, with summaries that were opened and with damaged ones, and with buffers of random lengths; a sheet that was written is read back, damaged
+ * and read again. A call that reads or writes past a buffer ends the program by a signal; built with -fsanitize=address the program's own side is watched
+ * too. Exit status 0: nothing found.
  */
 #include <stdint.h>
 #include <stdio.h>
@@ -81,7 +82,7 @@ static int all(const uint8_t *p, size_t n, int v)
 
 /* ---- what is looked at */
 
-enum { NUMBERS = ND2_SIZE_RANGE + 1 };
+enum { NUMBERS = ND2_CHUNK_NAME + 1 };
 
 static unsigned long calls, accepted, refusals[NUMBERS];
 static uint64_t seed, round_now;
@@ -154,6 +155,8 @@ static void ask_channels(void)
     uint32_t n = told("channels", nd2_channels(file.at, file.len, summary.at, summary.len, table.at, table.len, samples.at, samples.len), &table, &samples);
     if (!all(table.at, table.len, 0))
         fail("channels left the table", n);
+    if (n == ND2_CHUNK_NAME)
+        fail("channels are refused for a chunk's name", n);
     if (n != 0 && !all(samples.at, samples.len, 0))
         fail("refused channels left a record", n);
 }
@@ -165,6 +168,8 @@ static void ask_register(void)
     uint32_t n = told("register", nd2_register(file.at, file.len, summary.at, summary.len, samples.at, samples.len), &samples, &table);
     if (n != 0 && !all(samples.at, samples.len, 0x77))
         fail("a refused register changed the buffer", n);
+    if (n == ND2_CHUNK_NAME)
+        fail("a register is refused for a chunk's name", n);
 }
 
 static void ask_picometres(void)
@@ -229,6 +234,55 @@ static void damage_file(void)
             damage(file.at + file.len - end, end);
         else
             damage(file.at, file.len);
+    }
+}
+
+/* ---- chunk names */
+
+enum { HEADER = 16, LOCATOR = 40, MOST_ENTRIES = 4096 };
+
+static uint64_t number_at(size_t at)
+{
+    uint64_t v;
+    memcpy(&v, file.at + at, sizeof v);
+    return v;
+}
+
+/* Where the offsets of the map's entries stand in the good file; how many there are. */
+static size_t entries(size_t *offsets)
+{
+    size_t map = number_at(file.len - 8), many = 0;
+    for (size_t at = map + HEADER + 32; at < file.len - LOCATOR && many < MOST_ENTRIES; at += HEADER) {
+        while (at < file.len - LOCATOR && file.at[at] != '!')
+            at++;
+        offsets[many++] = ++at;
+    }
+    return many == 0 ? 0 : many - 1; /* the last one was the end mark */
+}
+
+/* The name of one chunk of the good file damaged, or its length, or its place in the map taken from another entry; or from one entry on all places from
+ * the entries behind. */
+static void damage_name(void)
+{
+    static size_t offsets[MOST_ENTRIES];
+    size_t many = entries(offsets);
+    if (many == 0)
+        return;
+    size_t entry = (below(2) ? below(4) : below(many)) % many;
+    size_t place = number_at(offsets[entry]);
+    switch (below(4)) {
+    case 0:
+        memcpy(file.at + offsets[entry], file.at + offsets[below(many)], 8);
+        break;
+    case 1:
+        for (; entry + 1 < many; entry++)
+            memcpy(file.at + offsets[entry], file.at + offsets[entry + 1], 8);
+        break;
+    case 2:
+        file.at[place + HEADER + below(file.at[place + 4])] ^= (uint8_t)(1u << below(8));
+        break;
+    default:
+        file.at[place + 4] = (uint8_t)(file.at[place + 4] + (below(2) ? 1 : -1));
     }
 }
 
@@ -301,6 +355,8 @@ static void ask_sheet(void)
 static void ask_all(const uint8_t *bytes, size_t len)
 {
     lend_copy(&file, bytes, below(8) ? len : below(len + 1));
+    if (file.len == len && below(4) == 0)
+        damage_name();
     damage_file();
     ask_open();
     if (below(3) == 0)

@@ -48,7 +48,8 @@ enum {
     ND2_BUFFER = 25,      /* the lent samples, register or sheet are too short */
     ND2_SHEET_LONG = 26,  /* a sheet would have more than 4,294,967,295 bytes */
     ND2_SHEET_LAYOUT = 27, /* the sheet is not of this reader's layout */
-    ND2_SIZE_RANGE = 28    /* the pixel size is infinite, or more than 2^64 - 1 picometres */
+    ND2_SIZE_RANGE = 28,   /* the pixel size is infinite, or more than 2^64 - 1 picometres */
+    ND2_CHUNK_NAME = 29    /* a chunk's name does not begin with the map's name for it */
 };
 
 /* ---- layouts */
@@ -121,7 +122,11 @@ typedef struct nd2_frame {
     uint64_t offset;      /* what the map says, 0 if absent */
 } nd2_frame;
 
-/* ---- the calls */
+/* ---- the calls
+ *
+ * A chunk that the map leads to has to bear the map's name for it, '!' included, or a longer name that begins with it; else 29, which comes after the 4 of a
+ * name that leaves the file and before the 4 of data that does. nd2_channels takes channels in a chunk of another name as not there, and nd2_open a
+ * calibration; nd2_register does not look at chunks. */
 
 /* Opens a file and stores its summary (ND2_SUMMARY_BYTES; another length is 20). The table is working room, all zero afterwards: 48 bytes
  * for each record of a tree, and 48 * (tree bytes / 2) always suffice; 18 says that it was too short. */

@@ -11,17 +11,18 @@ use Rattle.format.specs.Summary.{loopsOf}
 use Rattle.format.specs.Calls.Open.{opened, openCall, summaryOrZero}
 use Rattle.format.specs.Calls.Plane.{planeCall}
 use Rattle.format.specs.Calls.Border.{borderCall, planeAfter}
-use Rattle.format.specs.Sentences.{Refuses, Different, PlaneCopied, ReadsExactly}
+use Rattle.format.specs.Sentences.{Refuses, Different, PlaneCopied, ReadsExactly, FrameNamed}
 use Rattle.format.specs.Grammar.File.{Joined}
 use Rattle.format.specs.Grammar.Table.{Enough}
-use Rattle.format.specs.Refused.Order.{First}
-use Rattle.format.specs.Refused.Plane.{PlaneRefusal, planeOrder}
+use Rattle.format.specs.Refused.Order.{FirstAt}
+use Rattle.format.specs.Refused.Plane.{PlaneStage, PlaneRefusal, planeOrder}
 use Rattle.format.specs.Refused.Border.{BorderFirst}
 use Rattle.format.specs.declared.Summary.{Summary}
 use Rattle.format.proofs.Answers.{Numbered, NotZero, refusal}
 use Rattle.format.proofs.Nonzero.{opened-some}
 use Rattle.format.proofs.Demands.{first, third}
 use Rattle.format.proofs.Sounds.{joined-sound}
+use Rattle.format.proofs.ChunkNames.{plane-named}
 
 module _ (s tab : List ℕ) (scene t c z : ℕ) (buf : List ℕ) where
   abbrev number : ℕ
@@ -30,7 +31,7 @@ module _ (s tab : List ℕ) (scene t c z : ℕ) (buf : List ℕ) where
   abbrev theirs : Summary
   theirs = openCall s tab .summary
 
-  abbrev R : Summary → ℕ → Type 0
+  abbrev R : Summary → PlaneStage → ℕ → Type 0
   R u = PlaneRefusal s u scene t c z buf
 
   abbrev Fits : Type 0
@@ -60,9 +61,9 @@ module _ (s tab : List ℕ) (scene t c z : ℕ) (buf : List ℕ) where
 
   abbrev Sentences : ℕ → List ℕ → Type 0
   Sentences n out =
-      (Refuses n → out ≡ buf) × (BorderFirst s tab scene t c z buf n × (((u : Summary) → Joined s u → Fits → First (R u) planeOrder n)
+      (Refuses n → out ≡ buf) × (BorderFirst s tab scene t c z buf n × (((u : Summary) → Joined s u → Fits → FirstAt (R u) planeOrder n)
       × (ReadsExactly s (roomIn (length tab)) scene t c z buf n × ((n ≡ 0 → (u : Summary) × Joined s u × PlaneCopied s u scene t c z buf out)
-      × ((u : Summary) → Joined s u → Different (loopsOf u))))))
+      × (((u : Summary) → Joined s u → Different (loopsOf u)) × ((u : Summary) → Joined s u → Fits → FrameNamed s u scene t c z n))))))
 
   abbrev pub Promised : ℕ → List ℕ → List ℕ → Type 0
   Promised n out left =
@@ -92,7 +93,10 @@ module _ (s tab : List ℕ) (scene t c z : ℕ) (buf : List ℕ) where
                 λ _. refl,
                 (
                   rw (e ∙ sym p) (first .border-number s tab scene t c z buf),
-                  (λ u j h. absurd (shut u j h), ((λ x. absurd (f x), λ (u, j, h, k). absurd (shut u j h)), (λ x. absurd (f x), different))),
+                  (
+                    λ u j h. absurd (shut u j h),
+                    ((λ x. absurd (f x), λ (u, j, h, k). absurd (shut u j h)), (λ x. absurd (f x), (different, λ u j h. absurd (shut u j h)))),
+                  ),
                 ),
               ),
             ),
@@ -124,7 +128,10 @@ module _ (s tab : List ℕ) (scene t c z : ℕ) (buf : List ℕ) where
                     λ u k _. rw (same-theirs o u k, e) (first .plane-number s theirs scene t c z buf),
                     (
                       (λ x. (theirs, j, h, a .0 (sym e ∙ x)), λ (u, k, _, none). e ∙ a .1 (rw (same-theirs o u k) at none)),
-                      (λ x. (theirs, j, rw f (third .plane-sample s theirs scene t c z buf (sym e ∙ x))), different),
+                      (
+                        λ x. (theirs, j, rw f (third .plane-sample s theirs scene t c z buf (sym e ∙ x))),
+                        (different, λ u k _. rw (same-theirs o u k, e) (plane-named s theirs scene t c z buf)),
+                      ),
                     ),
                   ),
                 ),

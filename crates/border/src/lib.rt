@@ -9,10 +9,10 @@ ghost use Rattle.format.specs.Summary.{loopsOf};
 ghost use Rattle.format.specs.Calls.Border.{borderCall};
 ghost use Rattle.format.specs.Grammar.File.{Joined};
 ghost use Rattle.format.specs.Grammar.Table.{Enough};
-ghost use Rattle.format.specs.Refused.Order.{First};
+ghost use Rattle.format.specs.Refused.Order.{FirstAt};
 ghost use Rattle.format.specs.Refused.Plane.{PlaneRefusal, planeOrder};
 ghost use Rattle.format.specs.Refused.Border.{BorderFirst};
-ghost use Rattle.format.specs.Sentences.{Refuses, Different, PlaneCopied, ReadsExactly};
+ghost use Rattle.format.specs.Sentences.{Refuses, Different, PlaneCopied, ReadsExactly, FrameNamed};
 ghost use Rattle.format.specs.declared.Summary.{Summary};
 
 // Opens a file and reads the plane of component c at a point; 0, or the number of the first refusal. The table is all zero afterwards.
@@ -33,11 +33,13 @@ pub extern "C" fn nd2_read_plane(
     ensures untouched { λ r. ⌜ (Refuses r → now (samples .exit) ≡ now (samples .entry)) ⌝ }
     ensures first { λ r. ⌜ BorderFirst (now (file .entry)) (now (table .entry)) scene t c z (now (samples .entry)) r ⌝ }
     ensures then { λ r. ⌜ ((u : Summary) → Joined (now (file .entry)) u → Enough (now (file .entry)) (roomIn (length (now (table .entry))))
-        → First (PlaneRefusal (now (file .entry)) u scene t c z (now (samples .entry))) planeOrder r) ⌝ }
+        → FirstAt (PlaneRefusal (now (file .entry)) u scene t c z (now (samples .entry))) planeOrder r) ⌝ }
     ensures accepted { λ r. ⌜ ReadsExactly (now (file .entry)) (roomIn (length (now (table .entry)))) scene t c z (now (samples .entry)) r ⌝ }
     ensures copied { λ r. ⌜ (r ≡ 0 → (u : Summary) × Joined (now (file .entry)) u
         × PlaneCopied (now (file .entry)) u scene t c z (now (samples .entry)) (now (samples .exit))) ⌝ }
     ensures different { λ _. ⌜ ((u : Summary) → Joined (now (file .entry)) u → Different (loopsOf u)) ⌝ }
+    ensures named { λ r. ⌜ ((u : Summary) → Joined (now (file .entry)) u → Enough (now (file .entry)) (roomIn (length (now (table .entry))))
+        → FrameNamed (now (file .entry)) u scene t c z r) ⌝ }
 {
     let o = open(file, table);
     if o.number != 0 {

@@ -15,10 +15,10 @@ use Rattle.format.specs.Grammar.File.{Joined}
 use Rattle.format.specs.Refused.Order.{FirstAt}
 use Rattle.format.specs.Refused.Open.{OpenRefusal, openOrder}
 use Rattle.format.specs.Refused.Summary.{Sound}
-use Rattle.format.specs.Sentences.{Refuses, OpensExactly, Different, WholeNeeded, WholeTyped}
+use Rattle.format.specs.Sentences.{Refuses, OpensExactly, Different, WholeNeeded, WholeTyped, NeededNamed, CalibrationNamed}
 use Rattle.format.specs.declared.Summary.{Summary}
 use Rattle.format.proofs.Demands.{first, third}
-use Rattle.format.proofs.Requests.{whole-numbers}
+use Rattle.format.proofs.Requests.{whole-numbers, chunk-names}
 use Rattle.layout.specs.Layout.{summaryBytes, summaryFrom}
 use Rattle.capi.specs.OnBytes.{openOn}
 use Rattle.capi.specs.Said.{Said}
@@ -33,12 +33,13 @@ module _ (file table b : List ℕ) where
   Later n out =
       (n ≡ 0 → Said out (Joined file)) × ((n ≡ 0 → Said out (Sound file)) × ((n ≡ 0 → Said out (λ u. Different (loopsOf u)))
       × ((length b ≡ 144 → FirstAt (OpenRefusal file (roomIn (length table))) openOrder n)
-      × ((length b ≡ 144 → WholeNeeded file (roomIn (length table)) n) × (n ≡ 0 → Said out (WholeTyped file))))))
+      × ((length b ≡ 144 → WholeNeeded file (roomIn (length table)) n) × ((n ≡ 0 → Said out (WholeTyped file))
+      × ((length b ≡ 144 → NeededNamed file n) × (n ≡ 0 → Said out (CalibrationNamed file))))))))
 
   -- of a refused opening
   refused-later : {n : ℕ} (out : List ℕ) → Refuses n → (length b ≡ 144 → FirstAt (OpenRefusal file (roomIn (length table))) openOrder n)
-      → (length b ≡ 144 → WholeNeeded file (roomIn (length table)) n) → Later n out
-  refused-later out f o w = (never f, (never f, (never f, (o, (w, never f)))))
+      → (length b ≡ 144 → WholeNeeded file (roomIn (length table)) n) → (length b ≡ 144 → NeededNamed file n) → Later n out
+  refused-later out f o w m = (never f, (never f, (never f, (o, (w, (never f, (m, never f)))))))
 
   -- the call's number, table and summary, and the sentences that follow
   abbrev pub Promised : ℕ → List ℕ → List ℕ → Type 0
@@ -52,7 +53,7 @@ module _ (file table b : List ℕ) where
   refused-length f l z =
       let no : Refuses why.summary = λ q. omega arith in
       let number : why.summary ≡ openOn file table b = rw (ne-eqb (length b) 144 f) refl in
-      (number, (l, (never no, ((λ _. z), (never no, ((λ q. absurd (f q)), ((λ _. refl), refused-later _ no (λ q. absurd (f q)) λ q. absurd (f q))))))))
+      (number, (l, (never no, ((λ _. z), (never no, ((λ q. absurd (f q)), ((λ _. refl), refused-later _ no (λ q. absurd (f q)) (λ q. absurd (f q)) λ q. absurd (f q))))))))
 
   -- the bytes have a summary's length, so that the number is the opening's
   module _ (long : length b ≡ 144) {n : ℕ} (e : n ≡ openCall file table .number) {left : List ℕ} (l : left ≡ zeros (length table)) where
@@ -69,13 +70,19 @@ module _ (file table b : List ℕ) where
     whole : WholeNeeded file (roomIn (length table)) n
     whole = rw e (whole-numbers .open-whole file table)
 
+    named : NeededNamed file n
+    named = rw e (chunk-names .open-named file table)
+
     -- of one that accepts
     opened-later : (out : List ℕ) → openCall file table .number ≡ 0 → summaryFrom out ≡ some (openCall file table .summary) → Later n out
     opened-later out o s =
         let sound = third .opened-sound file table o in
         let typed : n ≡ 0 → Said out (WholeTyped file) = λ _. (_, s, whole-numbers .open-typed file table o) in
         let different : n ≡ 0 → Said out (λ u. Different (loopsOf u)) = λ _. (_, s, third .frames-different file _ sound) in
-        ((λ _. (_, s, third .returns-theirs file table o)), ((λ _. (_, s, sound)), (different, ((λ _. in-order), ((λ _. whole), typed)))))
+        let calibrated : n ≡ 0 → Said out (CalibrationNamed file) = λ _. (_, s, chunk-names .calibration-missing file table o) in (
+          λ _. (_, s, third .returns-theirs file table o),
+          ((λ _. (_, s, sound)), (different, ((λ _. in-order), ((λ _. whole), (typed, ((λ _. named), calibrated)))))),
+        )
 
     pub opened-stored : {u : Summary} {out : List ℕ} → u ≡ openCall file table .summary → n ≡ 0 → out ≡ summaryBytes u → summaryFrom out ≡ some u
         → Promised n left out
@@ -86,4 +93,4 @@ module _ (file table b : List ℕ) where
 
     pub refused-opening : {out : List ℕ} → Refuses n → out ≡ zeros (length b) → Promised n left out
     refused-opening f z =
-        (numbered, (l, (never f, ((λ _. z), (never f, ((λ _. exactly), ((λ g. absurd (g long)), refused-later _ f (λ _. in-order) λ _. whole)))))))
+        (numbered, (l, (never f, ((λ _. z), (never f, ((λ _. exactly), ((λ g. absurd (g long)), refused-later _ f (λ _. in-order) (λ _. whole) λ _. named)))))))

@@ -21,7 +21,7 @@ ghost use mathlib.Core.Path.{_≡_};
 ghost use mathlib.Core.Option.{some};
 ghost use Prim.Native.Nat.{_*_, _/_, _≤_};
 ghost use lib.ListN.{length};
-ghost use Rattle.format.specs.Bytes.{zeros, over};
+ghost use Rattle.format.specs.Bytes.{ascii, zeros, over};
 ghost use Rattle.format.specs.Trees.{roomIn};
 ghost use Rattle.format.specs.Channels.{fitted};
 ghost use Rattle.format.specs.Summary.{loopsOf};
@@ -39,6 +39,7 @@ ghost use Rattle.format.specs.Refused.Picometres.{PicometresRefusal, picometres
 ghost use Rattle.format.specs.Refused.Register.{RegisterRefusal, registerOrder, Registered};
 ghost use Rattle.format.specs.Sentences.{Refuses, AcceptedUnless, OpensExactly, Different, PlaneCopied, TreeEntered, WholeNeeded, WholeTyped};
 ghost use Rattle.format.specs.Sentences.{SheetWritten, PlaneOn, SheetTaken, TurnedAway, ZeroSizes, AtSome};
+ghost use Rattle.format.specs.Sentences.{FrameNamed, TreeNamed, NeededNamed, CalibrationNamed};
 ghost use Rattle.channels.specs.Ahead.{ahead, Stands};
 ghost use Rattle.layout.specs.Layout.{summaryBytes, summaryFrom, channelRowBytes};
 ghost use Rattle.capi.specs.RowBytes.{RowRecorded};
@@ -63,6 +64,8 @@ pub extern "C" fn nd2_open(file: &[u8], table: &mut [u8], summary: &mut [u8]) ->
     ensures whole { λ r. ⌜ (length (now (summary .entry)) ≡ 144
         → WholeNeeded (now (file .entry)) (roomIn (length (now (table .entry)))) r) ⌝ }
     ensures typed { λ r. ⌜ (r ≡ 0 → Said (now (summary .exit)) (WholeTyped (now (file .entry)))) ⌝ }
+    ensures named { λ r. ⌜ (length (now (summary .entry)) ≡ 144 → NeededNamed (now (file .entry)) r) ⌝ }
+    ensures calibrated { λ r. ⌜ (r ≡ 0 → Said (now (summary .exit)) (CalibrationNamed (now (file .entry)))) ⌝ }
 {
     clear(summary);
     if summary.len() != SUMMARY_BYTES {
@@ -92,11 +95,12 @@ pub extern "C" fn nd2_plane(
     ensures buffer { λ _. ⌜ now (samples .exit) ≡ planeOn (now (file .entry)) (now (summary .entry)) scene t c z (now (samples .entry)) .buffer ⌝ }
     ensures untouched { λ r. ⌜ (Refuses r → now (samples .exit) ≡ now (samples .entry)) ⌝ }
     ensures first { λ r. ⌜ WhereSaid (now (summary .entry))
-        (λ u. First (PlaneRefusal (now (file .entry)) u scene t c z (now (samples .entry))) planeOrder r) ⌝ }
+        (λ u. FirstAt (PlaneRefusal (now (file .entry)) u scene t c z (now (samples .entry))) planeOrder r) ⌝ }
     ensures unsaid { λ r. ⌜ Unsaid (now (summary .entry)) r ⌝ }
-    ensures accepted { λ r. ⌜ AcceptedOn (now (summary .entry)) (λ u. PlaneRefusal (now (file .entry)) u scene t c z (now (samples .entry))) r ⌝ }
+    ensures accepted { λ r. ⌜ AcceptedOn (now (summary .entry)) (λ u. AtSome (PlaneRefusal (now (file .entry)) u scene t c z (now (samples .entry)))) r ⌝ }
     ensures copied { λ r. ⌜ (r ≡ 0 → Said (now (summary .entry))
         (λ u. PlaneCopied (now (file .entry)) u scene t c z (now (samples .entry)) (now (samples .exit)))) ⌝ }
+    ensures named { λ r. ⌜ WhereSaid (now (summary .entry)) (λ u. FrameNamed (now (file .entry)) u scene t c z r) ⌝ }
 {
     let laid = summary_from(summary);
     if laid.ok {
@@ -121,12 +125,13 @@ pub extern "C" fn nd2_sheet(
     ensures buffer { λ _. ⌜ now (lent .exit) ≡ sheetOn (now (file .entry)) (now (summary .entry)) scene t c z (now (lent .entry)) .buffer ⌝ }
     ensures untouched { λ r. ⌜ (Refuses r → now (lent .exit) ≡ now (lent .entry)) ⌝ }
     ensures first { λ r. ⌜ WhereSaid (now (summary .entry))
-        (λ u. First (SheetRefusal (now (file .entry)) u scene t c z (now (lent .entry))) sheetOrder r) ⌝ }
+        (λ u. FirstAt (SheetRefusal (now (file .entry)) u scene t c z (now (lent .entry))) sheetOrder r) ⌝ }
     ensures unsaid { λ r. ⌜ Unsaid (now (summary .entry)) r ⌝ }
-    ensures accepted { λ r. ⌜ AcceptedOn (now (summary .entry)) (λ u. SheetRefusal (now (file .entry)) u scene t c z (now (lent .entry))) r ⌝ }
+    ensures accepted { λ r. ⌜ AcceptedOn (now (summary .entry)) (λ u. AtSome (SheetRefusal (now (file .entry)) u scene t c z (now (lent .entry)))) r ⌝ }
     ensures written { λ r. ⌜ (r ≡ 0 → Said (now (summary .entry))
         (λ u. SheetWritten (now (file .entry)) u scene t c z (now (lent .entry)) (now (lent .exit)))) ⌝ }
     ensures plane { λ r. ⌜ (r ≡ 0 → Said (now (summary .entry)) (λ u. PlaneOn (now (file .entry)) u scene t c z (now (lent .exit)))) ⌝ }
+    ensures named { λ r. ⌜ WhereSaid (now (summary .entry)) (λ u. FrameNamed (now (file .entry)) u scene t c z r) ⌝ }
 {
     let laid = summary_from(summary);
     if laid.ok {
@@ -172,12 +177,13 @@ pub extern "C" fn nd2_tree(file: &[u8], summary: &[u8], name: &[u8], table: &mut
     ensures buffer { λ _. ⌜ now (table .exit) ≡ treeOn (now (file .entry)) (now (summary .entry)) (now (name .entry)) (now (table .entry)) .buffer ⌝ }
     ensures cleared { λ r. ⌜ (Refuses r → now (table .exit) ≡ zeros (length (now (table .entry)))) ⌝ }
     ensures first { λ r. ⌜ WhereSaid (now (summary .entry))
-        (λ u. First (TreeRefusal (now (file .entry)) u (now (name .entry)) (roomIn (length (now (table .entry))))) treeOrder r) ⌝ }
+        (λ u. FirstAt (TreeRefusal (now (file .entry)) u (now (name .entry)) (roomIn (length (now (table .entry))))) treeOrder r) ⌝ }
     ensures unsaid { λ r. ⌜ Unsaid (now (summary .entry)) r ⌝ }
     ensures accepted { λ r. ⌜ AcceptedOn (now (summary .entry))
-        (λ u. TreeRefusal (now (file .entry)) u (now (name .entry)) (roomIn (length (now (table .entry))))) r ⌝ }
+        (λ u. AtSome (TreeRefusal (now (file .entry)) u (now (name .entry)) (roomIn (length (now (table .entry)))))) r ⌝ }
     ensures entries { λ r. ⌜ (r ≡ 0 → Said (now (summary .entry))
         (λ u. TreeEntered (now (file .entry)) u (now (name .entry)) (length (now (table .entry))) (now (table .exit)))) ⌝ }
+    ensures named { λ r. ⌜ WhereSaid (now (summary .entry)) (λ u. TreeNamed (now (file .entry)) u (now (name .entry)) r) ⌝ }
 {
     let laid = summary_from(summary);
     if laid.ok {
@@ -283,6 +289,7 @@ pub extern "C" fn nd2_picometres(
         (λ u. AtSome (PicometresRefusal (now (file .entry)) u (roomIn (length (now (table .entry)))))) r ⌝ }
     ensures zero { λ r. ⌜ (Refuses r → now (size .exit) ≡ 0) ⌝ }
     ensures rounded { λ r. ⌜ (r ≡ 0 → Said (now (summary .entry)) (λ u. SizeIs (now (file .entry)) u (now (size .exit)))) ⌝ }
+    ensures named { λ r. ⌜ WhereSaid (now (summary .entry)) (λ u. TreeNamed (now (file .entry)) u (ascii "ImageCalibrationLV|0!") r) ⌝ }
 {
     let laid = summary_from(summary);
     if laid.ok {

@@ -2,21 +2,23 @@
 use Prim.Native.Nat.{ℕ}
 use mathlib.Core.Path.{_≡_, refl, sym, ap, _∙_}
 use mathlib.Core.List.{List}
+use native.Mathlib.Decide.{ℕ-discrete}
 use lib.ListN.{length, getD, replicate, length-replicate}
 use Rattle.format.specs.Answer.{Answer, numberOf}
 use Rattle.format.specs.Bytes.{zeros}
 use Rattle.format.specs.Trees.{roomIn}
 use Rattle.format.specs.Channels.{emptyChannel, PlaneRecord, fitted}
 use Rattle.format.specs.Calls.Channels.{recordsOf, rowBy, channelsCall}
-use Rattle.format.specs.Sentences.{Refuses, AcceptedUnless}
+use Rattle.format.specs.Sentences.{Refuses, AcceptedUnless, NameAstray, ChannelsNamed}
 use Rattle.format.specs.Refused.Order.{First}
 use Rattle.format.specs.Refused.Channels.{ChannelsRefusal, channelsOrder, RecordAt, Recorded, Emptied}
 use Rattle.format.specs.Grammar.Channels.{Empty}
 use Rattle.format.specs.declared.Entry.{Entry}
 use Rattle.format.specs.declared.Channel.{Channel}
 use Rattle.format.specs.declared.Summary.{Summary}
-use Rattle.format.proofs.ChannelCalls.{channels-number, channels-accepted, channels-refused}
+use Rattle.format.proofs.ChannelCalls.{planesName, channels-number, channels-accepted, channels-refused}
 use Rattle.format.proofs.ChannelRecords.{is-empty, channels-record, channels-records, channels-emptied}
+use Rattle.format.proofs.ChunkNames.{astray-empty, channels-named}
 use Rattle.channels.specs.Ahead.{ahead}
 use Rattle.channels.specs.Ready.{Ready}
 use Rattle.channels.specs.declared.Prepared.{Prepared}
@@ -60,13 +62,21 @@ module _ (s : List ℕ) (u : Summary) (bytes : List ℕ) (n : ℕ) where
   unfolding channelsCall
   recorded i e = (rw length-replicate at (channels-record s u bytes (replicate n emptyChannel))) e i
 
+  astray : (i : ℕ) → NameAstray s u planesName → Empty (at-row i)
+  astray i x = by (ℕ-discrete (numberOf answer) 0)
+    where
+      by : Dec (numberOf answer ≡ 0) → Empty (at-row i)
+      by (yes e) = astray-empty s u x i (at-row i) (recorded i e)
+      by (no f) = empty i f
+
   -- ---- one record
 
   abbrev pub Promised : ℕ → ℕ → Channel → List ℕ → Type 0
   Promised i k c out =
       ((cs : List Channel) → length cs ≡ n → k ≡ channelsCall s u bytes cs .number)
       × (((cs : List Channel) → length cs ≡ n → c ≡ getD (channelsCall s u bytes cs .row) i emptyChannel)
-      × ((out ≡ zeros (length bytes)) × (First R channelsOrder k × (AcceptedUnless R k × ((Refuses k → Empty c) × (k ≡ 0 → RecordAt s u i c))))))
+      × ((out ≡ zeros (length bytes)) × (First R channelsOrder k × (AcceptedUnless R k × ((Refuses k → Empty c)
+      × ((k ≡ 0 → RecordAt s u i c) × (NameAstray s u planesName → Empty c)))))))
 
   pub one-record : {t : List ℕ} {m : ℕ} {b : Answer (List Entry)} {p : Prepared} (i : ℕ) {k : ℕ} {c : Channel} {out : List ℕ} → Ready s t n (u .components) answer m b p → k ≡ p .number
       → c ≡ getD (fitted n (ahead s t (p .planes))) i emptyChannel → out ≡ zeros (length bytes) → Promised i k c out
@@ -78,7 +88,10 @@ module _ (s : List ℕ) (u : Summary) (bytes : List ℕ) (n : ℕ) where
         z,
         (
           rw x first,
-          (rw x accepted, (λ f. rw q (empty i λ z. f (x ∙ z)), λ z. rw q (recorded i (sym x ∙ z)))),
+          (
+            rw x accepted,
+            (λ f. rw q (empty i λ z. f (x ∙ z)), (λ z. rw q (recorded i (sym x ∙ z)), λ y. rw q (astray i y))),
+          ),
         ),
       ),
     ),
@@ -101,6 +114,7 @@ module _ (s : List ℕ) (u : Summary) (bytes : List ℕ) (row : List Channel) wh
   Filled k ts zs =
       (k ≡ channelsCall s u bytes row .number) × (ts ≡ channelsCall s u bytes row .table) × (zs ≡ channelsCall s u bytes row .row) × (ts ≡ zeros (length bytes))
       × First Whole channelsOrder k × AcceptedUnless Whole k × (Refuses k → Emptied (length row) zs) × (k ≡ 0 → Recorded s u (length row) zs)
+      × ChannelsNamed s u (length row) zs
 
   pub whole-row : {t : List ℕ} {m : ℕ} {b : Answer (List Entry)} {p : Prepared} {ts : List ℕ} {zs : List Channel}
       → Ready s t (length row) (u .components) (recordsOf s u (roomIn (length bytes)) (length row)) m b p
@@ -115,4 +129,5 @@ module _ (s : List ℕ) (u : Summary) (bytes : List ℕ) (row : List Channel) wh
     rw (r .number) (channels-accepted s u bytes row),
     λ f. rw (e ∙ sym (r .row)) (channels-emptied s u bytes row (λ q. f (r .number ∙ q))),
     λ q. rw (e ∙ sym (r .row)) (channels-records s u bytes row (sym (r .number) ∙ q)),
+    λ x. rw (e ∙ sym (r .row)) (channels-named s u bytes row x),
   )

@@ -120,15 +120,15 @@ module _ (s : List ℕ) (u : Summary) (room n : ℕ) where
   abbrev treeOf : List MapEntry → Answer (List Entry)
   treeOf es = namedTree s (mapOf s u) es room planesName
 
-  abbrev listed : (es : List MapEntry) → treeUnder s room (given (offsetOf (mapOf s u) planesName es)) ≡ treeOf es
-  listed es = under-listed s room (mapOf s u) planesName es
+  abbrev listed : (es : List MapEntry) → treeUnder s room planesName (given (offsetOf (mapOf s u) planesName es)) ≡ treeOf es
+  listed es = under-listed s room planesName (mapOf s u) es
 
   -- the planes of that tree
   abbrev planesBy : List MapEntry → Answer (List PlaneRecord)
   planesBy es = recordsBy s (treeOf es)
 
   abbrev planesUnder : Answer (Option ℕ) → Answer (List PlaneRecord)
-  planesUnder x = recordsBy s (treeUnder s room x)
+  planesUnder x = recordsBy s (treeUnder s room planesName x)
 
   abbrev planes-listed : (es : List MapEntry) → planesUnder (given (offsetOf (mapOf s u) planesName es)) ≡ planesBy es
   planes-listed es = ap (recordsBy s) (listed es)
@@ -144,13 +144,13 @@ module _ (s : List ℕ) (u : Summary) (room n : ℕ) where
   module _ (g : badSummary s u ≡ false) {l : Answer (Option ℕ)} (q : l ≡ findIn (mapOf s u) planesName) where
     pub no-map : l ≡ refused why.map → Both why.map
     unfolding recordsOf planesTree
-    no-map e = (by-map s u n planesBy planesUnder planes-listed g q e, by-map s u n treeOf (treeUnder s room) listed g q e)
+    no-map e = (by-map s u n planesBy planesUnder planes-listed g q e, by-map s u n treeOf (treeUnder s room planesName) listed g q e)
 
     module _ (found : (o : Option ℕ) × (l ≡ given o)) where
       pub short-row : n < u .components → Both why.channelRow
       unfolding recordsOf planesTree
-      short-row f = (by-row s u n planesBy planesUnder planes-listed g q found f, by-row s u n treeOf (treeUnder s room) listed g q found f)
+      short-row f = (by-row s u n planesBy planesUnder planes-listed g q found f, by-row s u n treeOf (treeUnder s room planesName) listed g q found f)
 
-      pub read-on : u .components ≤ n → (recordsOf s u room n ≡ recordsBy s (treeUnder s room l)) × (planesTree s u room n ≡ treeUnder s room l)
+      pub read-on : u .components ≤ n → (recordsOf s u room n ≡ recordsBy s (treeUnder s room planesName l)) × (planesTree s u room n ≡ treeUnder s room planesName l)
       unfolding recordsOf planesTree
-      read-on f = (goes-on s u n planesBy planesUnder planes-listed g q found f, goes-on s u n treeOf (treeUnder s room) listed g q found f)
+      read-on f = (goes-on s u n planesBy planesUnder planes-listed g q found f, goes-on s u n treeOf (treeUnder s room planesName) listed g q found f)

@@ -17,14 +17,14 @@ use tree::Parsed;
 ghost use mathlib.Core.Path.{_≡_};
 ghost use mathlib.Core.List.{List};
 ghost use lib.ListN.{length, getD};
-ghost use Rattle.format.specs.Bytes.{zeros};
+ghost use Rattle.format.specs.Bytes.{ascii, zeros};
 ghost use Rattle.format.specs.Trees.{roomIn};
 ghost use Rattle.format.specs.Channels.{emptyChannel, fitted};
 ghost use Rattle.format.specs.Calls.Channels.{recordsOf, recordsBy, channelsCall};
 ghost use Rattle.format.specs.Grammar.Channels.{Empty};
 ghost use Rattle.format.specs.Refused.Order.{First};
 ghost use Rattle.format.specs.Refused.Channels.{ChannelsRefusal, channelsOrder, RecordAt, Recorded, Emptied};
-ghost use Rattle.format.specs.Sentences.{Refuses, AcceptedUnless};
+ghost use Rattle.format.specs.Sentences.{Refuses, AcceptedUnless, NameAstray, ChannelsNamed};
 ghost use Rattle.format.specs.declared.Channel.{Channel};
 ghost use Rattle.chunk.specs.Answers.{lookupOf};
 ghost use Rattle.named_tree.specs.Named.{treeUnder};
@@ -81,10 +81,11 @@ fn is_broken(at: Lookup) -> bool
 // The plane records of the tree that a lookup found, read into the table: of its refusals only 18 stops them.
 fn read_planes(file: &[u8], at: Lookup, table: &mut [u8], most: u64, row: usize) -> Prepared
     ensures { λ r. ⌜ Ready (now (file .entry)) (now (table .exit)) row most
-        (recordsBy (now (file .entry)) (treeUnder (now (file .entry)) (roomIn (length (now (table .entry)))) (lookupOf at)))
-        (length (now (table .entry))) (treeUnder (now (file .entry)) (roomIn (length (now (table .entry)))) (lookupOf at)) r ⌝ }
+        (recordsBy (now (file .entry)) (treeUnder (now (file .entry)) (roomIn (length (now (table .entry)))) (ascii "ImageMetadataSeqLV|0!") (lookupOf at)))
+        (length (now (table .entry)))
+        (treeUnder (now (file .entry)) (roomIn (length (now (table .entry)))) (ascii "ImageMetadataSeqLV|0!") (lookupOf at)) r ⌝ }
 {
-    match read_named(file, at, table) {
+    match read_named(file, b"ImageMetadataSeqLV|0!", at, table) {
         Parsed::Refused(n) => {
             if n == refusal::TABLE {
                 return without(refusal::TABLE);
@@ -154,6 +155,7 @@ pub fn channel(file: &[u8], u: Summary, table: &mut [u8], row: usize, i: usize) 
     ensures accepted { λ r. ⌜ AcceptedUnless (ChannelsRefusal (now (file .entry)) u (roomIn (length (now (table .entry)))) row) (r .number) ⌝ }
     ensures empty { λ r. ⌜ (Refuses (r .number) → Empty (r .channel)) ⌝ }
     ensures records { λ r. ⌜ (r .number ≡ 0 → RecordAt (now (file .entry)) u i (r .channel)) ⌝ }
+    ensures named { λ r. ⌜ (NameAstray (now (file .entry)) u (ascii "ImageMetadataSeqLV|0!") → Empty (r .channel)) ⌝ }
 {
     let p = prepare(file, u, table, row);
     let first = p.planes;
@@ -195,6 +197,7 @@ pub fn channels(file: &[u8], u: Summary, table: &mut [u8], row: &mut [Channel]) 
     ensures accepted { λ r. ⌜ AcceptedUnless (ChannelsRefusal (now (file .entry)) u (roomIn (length (now (table .entry)))) (length (now (row .entry)))) r ⌝ }
     ensures emptied { λ r. ⌜ (Refuses r → Emptied (length (now (row .entry))) (now (row .exit))) ⌝ }
     ensures records { λ r. ⌜ (r ≡ 0 → Recorded (now (file .entry)) u (length (now (row .entry))) (now (row .exit))) ⌝ }
+    ensures named { λ _. ⌜ ChannelsNamed (now (file .entry)) u (length (now (row .entry))) (now (row .exit)) ⌝ }
 {
     let p = prepare(file, u, table, row.len());
     let first = p.planes;

@@ -3,13 +3,13 @@ use Prim.Native.Nat.{ℕ, zero, suc, _+_, _-_, _/_, _%_, _^_, _≤_, _<_}
 use mathlib.Core.Path.{_≡_, refl, sym, _∙_}
 use mathlib.Core.List.{List, [], _∷_, _++_, append-assoc}
 use native.Mathlib.Omega.{arith}
-use lib.ListN.{length, drop, set, replicate, length-set, take}
-use lib.Seq.{drop-cons, getD-set-same, drop-set-lt, sets, sets-eq, drop-at, length-take-le}
+use lib.ListN.{length, drop, set, replicate, length-set, length-drop, take}
+use lib.Seq.{drop-cons, getD-set-same, drop-set-lt, sets, sets-eq, drop-at, take-all, length-take-le}
 use native.Mathlib.Numerals.{towards-suc}
 use Rattle.format.specs.Bytes.{ascii}
 use Rattle.format.specs.Frames.{digitsFrom, decimal, frameName}
 use Rattle.format.proofs.Frames.{digits-one, digits-more, digits-before, two-digits, fewer-digits}
-use Rattle.chunk.specs.Spelling.{Written}
+use Rattle.chunk.specs.Spelling.{Spelled, Written}
 use Rattle.chunk.specs.declared.frame.Name.{Name}
 
 -- what is left to write is m, before position i
@@ -88,3 +88,7 @@ named n r w i q =
     let b : i + 13 ≤ length (r .name) = omega (arith, t .high, t .size) in
     rw (thirteen (r .name) i, sets-eq prefix (r .name) i b, append-assoc)
     (drop-at (take i (r .name)) (prefix ++ drop (i + 13) (r .name)) i (length-take-le i (r .name) (omega arith)) ∙ (rw (a, t .tail) (sym (append-assoc prefix (decimal n) (33 ∷ [])))))
+
+-- the part of the array that is handed on is the text
+pub name-part : (text : List ℕ) (r : Name) → Spelled text r → take (40 - r .from) (drop (r .from) (r .name)) ≡ text
+name-part text r s = take-all (40 - r .from) (drop (r .from) (r .name)) (omega (arith, length-drop (r .from) (r .name), s .size)) ∙ s .tail

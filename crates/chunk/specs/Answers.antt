@@ -9,21 +9,23 @@ use Rattle.format.specs.Refusals as why
 use Rattle.format.specs.Map.{mapEntries, offsetOf}
 use Rattle.format.specs.declared.Range.{Range}
 use Rattle.chunk.specs.declared.ChunkData.{ChunkData}
-use Rattle.chunk.specs.declared.ChunkData.the-variants.{Data, Bad}
+use Rattle.chunk.specs.declared.ChunkData.the-variants.{Data, Bad, Misnamed}
 use Rattle.chunk.specs.declared.MapPlace.{MapPlace}
 use Rattle.chunk.specs.declared.MapPlace.the-variants.{Place, Refused}
 use Rattle.chunk.specs.declared.map.Lookup.{Lookup}
 use Rattle.chunk.specs.declared.map.Lookup.the-variants.{At, Absent, Broken}
 
--- a chunk's data
-abbrev pub dataOf : ChunkData → Answer Range
-dataOf (Data r) = given r
-dataOf Bad = refused why.chunk
+-- a chunk's data; `misnamed` is the refusal of a wrong name
+abbrev pub dataOf : ℕ → ChunkData → Answer Range
+dataOf misnamed (Data r) = given r
+dataOf misnamed Bad = refused why.chunk
+dataOf misnamed Misnamed = refused misnamed
 
 -- the data ends in the file
 abbrev pub DataIn : List ℕ → ChunkData → Type 0
 DataIn s (Data r) = r .start + r .len ≤ length s
 DataIn s Bad = Unit
+DataIn s Misnamed = Unit
 
 -- the map's data
 abbrev pub placeOf : MapPlace → Answer Range

@@ -1,9 +1,13 @@
-// The name of a frame's chunk, and what the map has under it.
+// The name of a frame's chunk, what the map has under it, and the chunk that bears it.
 use super::map::Lookup;
 use super::map::look_up;
+use crate::ChunkData;
+use crate::chunk_data;
 ghost use mathlib.Core.Path.{_≡_};
+ghost use Prim.Native.Nat.{ℕ};
+ghost use Rattle.format.specs.Chunks.{chunkData};
 ghost use Rattle.format.specs.Frames.{frameName};
-ghost use Rattle.chunk.specs.Answers.{lookupOf, findIn};
+ghost use Rattle.chunk.specs.Answers.{dataOf, DataIn, lookupOf, findIn};
 ghost use Rattle.chunk.specs.Spelling.{Written, Spelled};
 
 // A name at the end of an array: `name[from..]`.
@@ -51,6 +55,16 @@ pub fn frame_name(n: u64) -> Name
     name[from + 11] = b'q';
     name[from + 12] = b'|';
     Name { name, from }
+}
+
+// The data of the chunk at `offset`, which has to bear the name of frame n.
+pub fn frame_chunk(file: &[u8], offset: u64, n: u64) -> ChunkData
+    ensures { λ r. ⌜ ((w : ℕ) → dataOf w r ≡ chunkData w (frameName n) (now (file .entry)) offset) × DataIn (now (file .entry)) r ⌝ }
+{
+    let f = frame_name(n);
+    let name = f.name;
+    let from = f.from;
+    chunk_data(file, offset, &name[from..])
 }
 
 // The offset that the map has for frame n.

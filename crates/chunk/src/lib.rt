@@ -6,7 +6,7 @@ use format::refusal;
 use names::begins_at;
 use names::is_end;
 ghost use mathlib.Core.Path.{_≡_};
-ghost use Prim.Native.Nat.{_+_, _≤_};
+ghost use Prim.Native.Nat.{ℕ, _+_, _≤_};
 ghost use lib.ListN.{length};
 ghost use Rattle.format.specs.Bytes.{part};
 ghost use Rattle.format.specs.Chunks.{chunkData};
@@ -21,15 +21,18 @@ const ND2_CHUNK_MAGIC: u64 = 0x0ABECEDA;
 
 const JP2_MAGIC: u64 = 0x0C000000;
 
-// A chunk's data in its file, or refusal 4.
+// A chunk's data in its file.
 pub enum ChunkData {
     Data(Range),
+    // Refusal 4.
     Bad,
+    // Another name: refusal 4 for the map chunk, and 29 for one that the map has under a name.
+    Misnamed,
 }
 
 // The data of the chunk at `offset`, whose name begins with `expect`.
 pub fn chunk_data(file: &[u8], offset: u64, expect: &[u8]) -> ChunkData
-    ensures { λ r. ⌜ (dataOf r ≡ chunkData (now (expect .entry)) (now (file .entry)) offset) × DataIn (now (file .entry)) r ⌝ }
+    ensures { λ r. ⌜ ((w : ℕ) → dataOf w r ≡ chunkData w (now (expect .entry)) (now (file .entry)) offset) × DataIn (now (file .entry)) r ⌝ }
 {
     let n = file.len();
     let at = offset as usize;
@@ -48,7 +51,7 @@ pub fn chunk_data(file: &[u8], offset: u64, expect: &[u8]) -> ChunkData
         return ChunkData::Bad;
     }
     if !begins_at(file, body, name_len, expect) {
-        return ChunkData::Bad;
+        return ChunkData::Misnamed;
     }
     let len = le8(file, at + 8);
     let start = body + name_len;
@@ -102,5 +105,6 @@ pub fn locate(file: &[u8]) -> MapPlace
     match chunk_data(file, offset, b"ND2 FILEMAP SIGNATURE NAME 0001!") {
         ChunkData::Data(r) => MapPlace::Place(r),
         ChunkData::Bad => MapPlace::Refused(refusal::CHUNK),
+        ChunkData::Misnamed => MapPlace::Refused(refusal::CHUNK),
     }
 }

@@ -7,13 +7,13 @@ use Rattle.format.proofs.Stages.{decides-map, first-map, first-then, fi
 use Rattle.format.proofs.OpenParts.{stage-once}
 use Rattle.format.proofs.OpenNumbers.{open-decides}
 use Rattle.format.proofs.Files.{opened-iff-joined, joined-unique}
-use Rattle.format.proofs.Planes.{plane-number}
+use Rattle.format.proofs.Planes.{plane-number, plane-stage-once}
 use Rattle.format.specs.Trees.{roomIn}
 use Rattle.format.specs.Calls.Open.{opened}
 use Rattle.format.specs.Calls.Border.{borderCall, planeAfter}
 use Rattle.format.specs.Grammar.File.{Joined}
 use Rattle.format.specs.Refused.Order.{FirstAt}
-use Rattle.format.specs.Refused.Plane.{PlaneRefusal}
+use Rattle.format.specs.Refused.Plane.{PlaneStage, PlaneRefusal}
 use Rattle.format.specs.Refused.Open.{Stage, OpenRefusal}
 use Rattle.format.specs.Refused.Border.{BorderStage, opening, reading, borderOrder, BorderRefusal, BorderFirst, open-refused, plane-refused}
 use Rattle.format.specs.declared.Summary.{Summary}
@@ -26,19 +26,20 @@ module _ (s : List ℕ) (room scene t c z : ℕ) (buf : List ℕ) where
   says-open a n (open-refused x) = x
 
   -- of the one summary that the file is joined to
-  says-plane : (u : Summary) → Joined s u → (n m : ℕ) → Q (reading n) m → PlaneRefusal s u scene t c z buf n
-  says-plane u j n m (plane-refused {u = v} k p) = rw (joined-unique s u v j k) p
+  says-plane : (u : Summary) → Joined s u → (a : PlaneStage) (n : ℕ) → Q (reading a) n → PlaneRefusal s u scene t c z buf a n
+  says-plane u j a n (plane-refused {u = v} k p) = rw (joined-unique s u v j k) p
 
   border-first : FirstAt Q borderOrder (planeAfter s scene t c z buf (opened s room) .number)
   unfolding planeAfter
   border-first =
       first-then (λ x. planeAfter s scene t c z buf x .number) (λ n. refl) (decides-map opening (λ a n. open-refused) says-open (open-decides s room)) λ u e.
       let (j, f) = opened-iff-joined s room u .0 e in
-      first-map reading (λ n. plane-refused j) (says-plane u j) (plane-number s u scene t c z buf)
+      first-map reading (λ a n. plane-refused j) (says-plane u j) (plane-number s u scene t c z buf)
 
   once : (a : BorderStage) (n m : ℕ) → Q a n → Q a m → n ≡ m
   once a n m (open-refused {a = b} x) (open-refused y) = stage-once s room b n m x y
-  once a n m (plane-refused j x) (plane-refused k y) = refl
+  once a n m (plane-refused {u = u} {a = b} j x) (plane-refused k y) =
+      plane-stage-once s u scene t c z buf b n m x (says-plane u j b m (plane-refused k y))
 
   -- No other number is.
   pub border-number-only : (n m : ℕ) → FirstAt Q borderOrder n → FirstAt Q borderOrder m → n ≡ m

@@ -15,7 +15,7 @@ use Rattle.format.proofs.Trees.{tree-read, fault-read, read-fault}
 use Rattle.format.proofs.Rules.{States, no-such, none-of, bind-some, some-bind, cond-some}
 use Rattle.format.proofs.Means.{Means}
 use Rattle.format.proofs.Fields.{level-at, double-in}
-use Rattle.format.proofs.Named.{Missing, no-entry, no-chunk, named-read, read-named, named-numbered, named-unique, given-tree, refused-tree, refused-chunk, tree-means}
+use Rattle.format.proofs.Named.{Missing, no-entry, no-chunk, wrong-name, named-read, read-named, named-numbered, named-unique, given-tree, refused-tree, refused-chunk, tree-means}
 use Rattle.format.proofs.Suffices.{fault-low}
 use Rattle.format.specs.Answer.{Answer, refused, given, andThen}
 use Rattle.format.specs.Refusals as why
@@ -162,6 +162,7 @@ module _ (s m : List ℕ) (es : List MapEntry) (room : ℕ) (z : Option Float) w
           number : (n : ℕ) → Missing n → calibrationBy s (zFloat z) (refused n) ≡ given size → Calibrated s m es z size
           number n no-entry e = subst (Calibrated s m es z) (given-inj e) (missing no-chunk-there)
           number n no-chunk e = subst (Calibrated s m es z) (given-inj e) (missing no-chunk-there)
+          number n wrong-name e = subst (Calibrated s m es z) (given-inj e) (missing no-chunk-there)
       go (given r) q h e =
           let x = named-read s m es name r q in
           let (c, l) = size-tree r size x e in
@@ -194,6 +195,7 @@ module _ (s m : List ℕ) (es : List MapEntry) (room : ℕ) (z : Option Float) w
           → calibrationBy s (zFloat z) (andThen x λ r. treeEntries (within room (treeIn s r))) ≡ refused n → (n ≡ why.table) × Overfull
       go (refused k) q (refusal no-entry) e = absurd (refused≢given (sym e))
       go (refused k) q (refusal no-chunk) e = absurd (refused≢given (sym e))
+      go (refused k) q (refusal wrong-name) e = absurd (refused≢given (sym e))
       go (given r) q h e = tree r (named-read s m es name r q) (leb (length (treeIn s r .entries)) room) refl e
 
   -- and the other way round
@@ -217,3 +219,4 @@ module _ (s m : List ℕ) (es : List MapEntry) (room : ℕ) (z : Option Float) w
       go (given r) q h = absurd (f r (named-read s m es name r q))
       go (refused n) q (refusal no-entry) = rw (refused-chunk s m es name room why.missing q) refl
       go (refused n) q (refusal no-chunk) = rw (refused-chunk s m es name room why.chunk q) refl
+      go (refused n) q (refusal wrong-name) = rw (refused-chunk s m es name room why.chunkName q) refl

@@ -1,6 +1,6 @@
 -- A channels call's number is the first of its refusals in order, and what a refused one leaves. Assumes nothing.
 use Prim.Native.Nat.{ℕ, _<_}
-use mathlib.Core.Path.{_≡_, refl, sym, ap, _∙_}
+use mathlib.Core.Path.{_≡_, refl, sym, _∙_}
 use mathlib.Core.Logic.{_↔_}
 use mathlib.Core.Bool.{Bool, true, false, cond}
 use mathlib.Core.List.{List, [], _∷_}
@@ -10,10 +10,11 @@ use lib.ListN.{length, replicate, length-replicate}
 use lib.Seq.{take-all}
 use borrow.Author.Tests.{eqb-true, eqb-false}
 use Rattle.format.proofs.Answers.{refused≢given}
-use Rattle.format.proofs.Orders.{Decides, stops, gives, goes, decides-if, decides-less, decides-one, decides-then, decides-first, decides-holds, nonzero, accepted-iff}
+use Rattle.format.proofs.Orders.{Decides, stops, gives, goes, decides-if, decides-less, decides-one, decides-then, decides-first, nonzero, accepted-iff}
+use Rattle.format.proofs.Stages.{decides-from}
 use Rattle.format.proofs.Maps.{map-read, read-map, map-numbered}
 use Rattle.format.proofs.Summaries.{sound-read, unsound}
-use Rattle.format.proofs.TreeCalls.{named-decides, read-short, says-table}
+use Rattle.format.proofs.TreeCalls.{named-decides, read-short, says-18}
 use Rattle.format.specs.Answer.{Answer, refused, given, numberOf}
 use Rattle.format.specs.Bytes.{ascii, zeros}
 use Rattle.format.specs.Refusals as why
@@ -72,7 +73,9 @@ module _ (s : List ℕ) (u : Summary) (room n : ℕ) where
       go (refused k) q = by (eqb k why.table) refl
         where
           by : (b : Bool) → eqb k why.table ≡ b → Decides R {A = List PlaneRecord} (why.table ∷ []) (cond b (refused why.table) (given []))
-          by true h = stops (table (says-table s u planesName room (decides-holds (named-decides s u planesName room es e) (q ∙ ap refused (eqb-true _ _ h)))))
+          by true h =
+              let (a, x) = decides-from (named-decides s u planesName room es e) q in
+              stops (table (says-18 s u planesName room a k x (eqb-true _ _ h)))
           by false h = goes (λ w. let z = sym q ∙ short w in let e₂ : k ≡ why.table = cc in eqb-false _ _ h e₂) gives
 
   pub channels-decides : Decides R channelsOrder (recordsOf s u room n)

@@ -25,8 +25,9 @@ use Rattle.format.proofs.Frames.{seq-different}
 use Rattle.format.proofs.Names.{frame-number-unique}
 use Rattle.format.proofs.Triples.{seq-below}
 use Rattle.format.proofs.Counting.{frame-number, axis-count, frame-count}
-use Rattle.format.proofs.Planes.{plane-sample, plane-refused, plane-number, plane-accepted}
-use Rattle.format.proofs.TreeCalls.{tree-table, tree-refused, tree-number}
+use Rattle.format.proofs.Stages.{first-once}
+use Rattle.format.proofs.Planes.{plane-sample, plane-refused, plane-number, plane-number-only, plane-accepted}
+use Rattle.format.proofs.TreeCalls.{tree-table, tree-refused, tree-number, tree-stage-once}
 use Rattle.format.proofs.ChannelCalls.{channels-table, channels-number}
 use Rattle.format.proofs.ChannelRecords.{channels-emptied, channels-records, recorded-once}
 use Rattle.format.proofs.Registers.{register-frames, register-refused, register-number}
@@ -48,11 +49,7 @@ zero-blank =
       bits = refl;
       map-start = refl;
       map-len = refl;
-      calibration = refl;
-      x = refl;
-      y = refl;
-      class = refl;
-      z = refl;
+      uncalibrated = record { calibration = refl; x = refl; y = refl; class = refl; z = refl };
     }
 
 module _ (file : List ℕ) (room : ℕ) where
@@ -100,8 +97,10 @@ first = record {
   open-number-only = open-number-only;
   open-table-full = open-table-full;
   plane-number = plane-number;
+  plane-number-only = plane-number-only;
   plane-refused = plane-refused;
   tree-number = tree-number;
+  tree-number-only = λ file u name room n m x y. first-once (tree-stage-once file u name room) x y;
   tree-refused = tree-refused;
   tree-table = tree-table;
   channels-number = channels-number;

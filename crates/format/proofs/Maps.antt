@@ -311,6 +311,6 @@ module _ (s : List ℕ) where
           range-none e = rw (le-ltb _ _ h, ne-eqb _ _ o, eq-eqb _ _ m, le-ltb _ _ l, e)
 
           pub range-chunk : same (part s (length s - 40) 32) endMark ≡ true → {a : Answer Range} {k : ℕ} → k ≡ leAt 8 s (length s - 8)
-              → a ≡ chunkData mapName s k → a ≡ mapRange s
+              → a ≡ chunkData why.chunk mapName s k → a ≡ mapRange s
           unfolding mapRange refuseIf
           range-chunk e q r = rw (le-ltb _ _ h, ne-eqb _ _ o, eq-eqb _ _ m, le-ltb _ _ l, e, ← q) r

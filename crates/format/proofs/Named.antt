@@ -2,7 +2,7 @@
 use Prim.Native.Nat.{ℕ, _-_, _≤_}
 use mathlib.Core.Path.{_≡_, refl, sym, ap, _∙_, subst}
 use mathlib.Core.Bool.{false, not}
-use mathlib.Core.List.{List, []}
+use mathlib.Core.List.{List}
 use native.Mathlib.Omega.{arith}
 use lib.Dec.{eqb, ltb}
 use lib.ListN.{length}
@@ -32,6 +32,7 @@ use Rattle.format.specs.declared.Entry.{Entry}
 pub data Missing : ℕ → Type 0 where
   no-entry : Missing why.missing
   no-chunk : Missing why.chunk
+  wrong-name : Missing why.chunkName
 
 -- ---- the map
 
@@ -56,7 +57,7 @@ module _ (s : List ℕ) where
         first-mark = eqb-true (leAt 4 s 0) chunkMark (not-false _ f₃);
         locator-within = ltb-false n 40 f₄;
         locator = same-true _ _ (not-false _ f₅);
-        map-chunk = chunk-read mapName s (leAt 8 s (n - 8)) r e₅;
+        map-chunk = chunk-read why.chunk mapName s (leAt 8 s (n - 8)) r e₅;
       }
 
   pub mapped-read : (r : Range) (es : List MapEntry) → mapRange s ≡ given r → mapEntries (dataIn s r) ≡ given es → Mapped s r es
@@ -80,7 +81,7 @@ module _ (s : List ℕ) where
       (not-refused (not (eqb (leAt 4 s 0) chunkMark)) why.foreign _ _ (ap not (eq-eqb _ _ (x .first-mark)))
       (not-refused (ltb (length s) 40) why.tail _ _ (le-ltb _ _ h)
       (not-refused (not (same (part s (length s - 40) 32) endMark)) why.tail _ _ (ap not (true-same _ _ (x .locator)))
-      (read-chunk mapName s (leAt 8 s (length s - 8)) r (x .map-chunk))))))
+      (read-chunk why.chunk mapName s (leAt 8 s (length s - 8)) r (x .map-chunk))))))
 
   pub read-mapped : (r : Range) (es : List MapEntry) → Mapped s r es → mapEntries (dataIn s r) ≡ given es
   read-mapped r es x = read-map _ es (x .map-of)
@@ -98,15 +99,19 @@ module _ (s m : List ℕ) (es : List MapEntry) (name : List ℕ) where
   unfolding namedChunk
   named-read r e =
       let (o, f₁, e₁) = andThen-given (orRefuse (offsetOf m name es) why.missing) _ e in
-      record { offset = o; listed = listed-read m name es o (orRefuse-given _ why.missing f₁); chunk = chunk-read [] s o r e₁ }
+      record { offset = o; listed = listed-read m name es o (orRefuse-given _ why.missing f₁); chunk = chunk-read why.chunkName name s o r e₁ }
 
   pub read-named : (r : Range) → Named s m es name r → namedChunk s m es name ≡ given r
   unfolding namedChunk
-  read-named r x = go-on (orRefuse (offsetOf m name es) why.missing) _ (x .offset) (found _ why.missing (x .offset) (read-listed m name es (x .offset) (x .listed))) (read-chunk [] s (x .offset) r (x .chunk))
+  read-named r x =
+      go-on (orRefuse (offsetOf m name es) why.missing) _ (x .offset) (found _ why.missing (x .offset) (read-listed m name es (x .offset) (x .listed)))
+      (read-chunk why.chunkName name s (x .offset) r (x .chunk))
 
   pub named-numbered : Numbered Missing (namedChunk s m es name)
   unfolding namedChunk
-  named-numbered = andThen-numbered (orRefuse (offsetOf m name es) why.missing) (chunkData [] s) (orRefuse-numbered _ why.missing no-entry) λ o. chunk-numbered [] s o Missing no-chunk
+  named-numbered =
+      andThen-numbered (orRefuse (offsetOf m name es) why.missing) (chunkData why.chunkName name s) (orRefuse-numbered _ why.missing no-entry) λ o.
+      chunk-numbered why.chunkName name s o Missing no-chunk wrong-name
 
   pub named-unique : (r q : Range) → Named s m es name r → Named s m es name q → r ≡ q
   named-unique r q x y = given-inj (sym (read-named r x) ∙ read-named q y)

@@ -6,16 +6,17 @@ use mathlib.Core.List.{List, [], _∷_, _++_, append-assoc, append-nil}
 use mathlib.Core.Logic.{_⊎_, inl, inr}
 use native.Mathlib.Nat.{mul-le-mul, pow-succ', pow-le-pow-right, eq-or-lt-of-le}
 use native.Mathlib.Omega.{arith}
-use lib.Dec.{ltb}
+use lib.Dec.{ltb, eqb}
 use lib.ListN.{length, getD, drop, length-take, length-append, List·getD-append}
 use lib.Seq.{getD-append-add}
-use borrow.Author.Tests.{ltb-true, ltb-false, lt-ltb}
+use borrow.Author.Tests.{ltb-true, ltb-false, lt-ltb, ne-eqb}
 use Rattle.format.proofs.Frames.{seq-different}
 use Rattle.format.proofs.Triples.{seq-below}
 use Rattle.format.specs.Bytes.{ascii}
 use Rattle.format.specs.Loops.{mostCount}
 use Rattle.format.specs.Summary.{loopsOf}
 use Rattle.format.specs.Frames.{seqIndex, frames, digitsFrom, decimal, frameName}
+use Rattle.format.specs.Grammar.Chunks.{Begins}
 use Rattle.format.specs.Grammar.Frames.{Decimal, digit, digits, FrameName}
 use Rattle.format.specs.Grammar.Loops.{Counted}
 use Rattle.format.specs.Grammar.Loops.{cons}
@@ -109,6 +110,29 @@ frame-number-unique {n} {m} x y =
     let q : x .number ++ (33 ∷ []) ≡ y .number ++ (33 ∷ []) = ap (drop 13) (sym (x .spelled) ∙ y .spelled) in
     let k : n * 10 + (33 - 48) ≡ m * 10 + (33 - 48) = sym (decimal-number (x .decimal) (33 ∷ [])) ∙ (ap (number 0) q ∙ decimal-number (y .decimal) (33 ∷ [])) in
     omega arith
+
+-- what stands before a list's first '!'
+unfoldable before-mark : List ℕ → List ℕ
+before-mark [] = []
+before-mark (b ∷ bs) = cond (eqb b 33) [] (b ∷ before-mark bs)
+
+before-digits : (ds r : List ℕ) → ((i : ℕ) → i < length ds → 48 ≤ getD ds i 0) → before-mark (ds ++ 33 ∷ r) ≡ ds
+unfolding before-mark
+before-digits [] r f = refl
+before-digits (d ∷ ds) r f =
+    let h : 48 ≤ d = f 0 (omega arith) in
+    rw (ne-eqb d 33 (λ e. omega arith)) (ap (λ (l : List ℕ). d ∷ l) (before-digits ds r λ i l. f (suc i) (omega arith)))
+
+-- a chunk's name begins with the name of one frame alone
+pub begins-once : {n m : ℕ} {a b x : List ℕ} → FrameName n a → FrameName m b → Begins a x → Begins b x → n ≡ m
+unfolding number ascii
+begins-once {n} {m} x y p q =
+    let k : x .number ≡ y .number = sym (behind x p) ∙ behind y q in
+    sym (decimal-number (x .decimal) []) ∙ ap (λ (l : List ℕ). number 0 (l ++ [])) k ∙ decimal-number (y .decimal) []
+  where
+    behind : {n : ℕ} {a x : List ℕ} (f : FrameName n a) → Begins a x → before-mark (drop 13 x) ≡ f .number
+    behind f g =
+        rw (g .joined, f .spelled, append-assoc) (before-digits (f .number) (g .rest) λ i l. digit-range (f .decimal) i l .0)
 
 pub name-different : (n m : ℕ) → n < 10 ^ 20 → m < 10 ^ 20 → frameName n ≡ frameName m → n ≡ m
 name-different n m hn hm e = frame-number-unique (frame-name n hn) (rw e (frame-name m hm))

@@ -11,6 +11,7 @@ use Rattle.format.proofs.Lists.{all-in}
 use Rattle.format.proofs.Orders.{nonzero}
 use Rattle.format.proofs.Stages.{decides-numbered}
 use Rattle.format.proofs.Trees.{fault-number, treeFaults}
+use Rattle.format.proofs.Chunks.{chunk-staged}
 use Rattle.format.proofs.LoopFaults.{walk-number, judge-number}
 use Rattle.format.proofs.OpenNumbers.{open-decides}
 use Rattle.format.specs.Answer.{Answer}
@@ -19,7 +20,7 @@ use Rattle.format.specs.Values.{fieldIn, bind}
 use Rattle.format.specs.Numbers.{signed}
 use Rattle.format.specs.Loops.{Said, nothing, wrong, loop, said, saidBy, typed, counted, supported, mostCount, pointCount, spectralCount, countField, Built, append, walkAll, walkOne, walk, loopParams}
 use Rattle.format.specs.Calls.Open.{opened}
-use Rattle.format.specs.Refused.Open.{Stage, OpenRefusal, no-mark, old-mark, other-mark, no-tail, wrong-tail, no-map-chunk, no-map, no-entry, no-chunk, table-short, tree-fault, no-sizes, compressed, wrong-bits, wrong-shape, no-level, walk-fault, misjudged, plane-over, calibration-short}
+use Rattle.format.specs.Refused.Open.{Stage, needed, OpenRefusal, no-mark, old-mark, other-mark, no-tail, wrong-tail, no-map-chunk, no-map, no-entry, no-chunk, table-short, tree-fault, no-sizes, compressed, wrong-bits, wrong-shape, no-level, walk-fault, misjudged, plane-over, calibration-short}
 use Rattle.format.specs.declared.Entry.{Entry}
 
 -- an answer whose refusals are not 0
@@ -88,7 +89,7 @@ stage-some s room a n (wrong-tail h f) = lit< tt
 stage-some s room a n (no-map-chunk f) = lit< tt
 stage-some s room a n (no-map x f) = lit< tt
 stage-some s room a n (no-entry x f) = lit< tt
-stage-some s room a n (no-chunk x l f) = lit< tt
+stage-some s room a n (no-chunk {w = w} {o = o} {a = b} x l c) = chunk-staged (needed w) s o b n c .1
 stage-some s room a n (table-short x) = lit< tt
 stage-some s room a n (tree-fault {r = r} x f) = all-in (fault-number s r n f) (nonzero treeFaults refl)
 stage-some s room a n (no-sizes x f) = lit< tt

@@ -3,7 +3,7 @@ use Prim.Native.Nat.{ℕ, _-_, _≤_, _<_}
 use mathlib.Core.Path.{_≡_, refl, sym, ap, _∙_}
 use mathlib.Core.Bool.{Bool, true, false, cond, not, true≢false}
 use mathlib.Core.Option.{Option, some, Option·some-inj}
-use mathlib.Core.List.{List, [], _∷_, reverse}
+use mathlib.Core.List.{List, [], _∷_, _++_, map as each, reverse}
 use native.Mathlib.Omega.{arith}
 use lib.Dec.{ltb, eqb, leb}
 use lib.IntN.{pos}
@@ -12,8 +12,9 @@ use lib.Ieee.{Float}
 use borrow.Author.Tests.{ltb-true, ltb-false, leb-true, leb-false, eqb-true, eqb-false, not-true, not-false}
 use Rattle.format.proofs.Tests.{same-true, true-same}
 use Rattle.format.proofs.Answers.{refused≢given, given-inj, none≢some}
-use Rattle.format.proofs.Stages.{DecidesAt, stops, gives, goes, tests, needs, stage, stage-one, decides-then, decides-first, first-from, first-once}
-use Rattle.format.proofs.Chunks.{chunk-read, read-chunk, chunk-unique, chunk-numbered}
+use Rattle.format.proofs.Stages.{DecidesAt, stops, gives, goes, tests, needs, stage, stage-one, decides-then, decides-map}
+use Rattle.format.proofs.Stages.{decides-first, first-from, first-once}
+use Rattle.format.proofs.Chunks.{chunk-read, read-chunk, chunk-unique, chunk-numbered, chunk-decides}
 use Rattle.format.proofs.Maps.{read-map, map-numbered, listed-read, read-listed}
 use Rattle.format.proofs.Named.{range-read, mapped-read, mapped-unique, named-read, tree-given, tree-means}
 use Rattle.format.proofs.Trees.{tree-read, read-tree, fault-read, read-fault, passed-read, read-passed, at≢fault}
@@ -47,17 +48,23 @@ use Rattle.format.specs.Grammar.Numbers.{Signed}
 use Rattle.format.specs.Grammar.Attributes.{Bits, Shape, Sized}
 use Rattle.format.specs.Grammar.Table.{TreeRead, attributes as attributesRead, experiment as experimentRead, calibration as calibrationRead}
 use Rattle.format.specs.Refused.Order.{FirstAt}
+use Rattle.format.specs.Refused.Chunk.{ChunkStage, chunkOrder, ChunkRefusal, no-head, misnamed, no-data}
 use Rattle.format.specs.Refused.Open.{Needed, attributes, experiment, needed, Stage, first-mark, tail, map-chunk, map, entry, chunk, table}
 use Rattle.format.specs.Refused.Open.{fault, sizes, compression, bits, shape, experiment-level, walk, judged, plane, calibration, openOrder}
 use Rattle.format.specs.Refused.Open.{MapChunk, ChunkAt, TreeAt, TooMany, SizesAt, ExperimentAt, OpenRefusal}
 use Rattle.format.specs.Refused.Open.{no-mark, old-mark, other-mark, no-tail, wrong-tail, no-map-chunk, no-map, no-entry, no-chunk}
 use Rattle.format.specs.Refused.Open.{table-short, tree-fault, no-sizes, compressed, wrong-bits, wrong-shape, no-level, walk-fault}
 use Rattle.format.specs.Refused.Open.{misjudged, plane-over, calibration-short}
+use Rattle.format.specs.Sentences.{EntryAstray}
 use Rattle.format.specs.declared.Range.{Range}
 use Rattle.format.specs.declared.Entry.{Entry}
 use Rattle.format.specs.declared.Attributes.{Attributes}
 use Rattle.format.specs.declared.Calibration.{Calibration}
 use Rattle.format.specs.declared.Loop.{Loop}
+
+-- the stages of a needed chunk and its tree
+abbrev readStages : Needed → List Stage
+readStages w = entry w ∷ each (chunk w) chunkOrder ++ table w ∷ fault w ∷ []
 
 module _ (s : List ℕ) (room : ℕ) where
   abbrev R : Stage → ℕ → Type 0
@@ -93,8 +100,8 @@ module _ (s : List ℕ) (room : ℕ) where
       let l = ltb-false (length s) 40 q₄ in
       tests (not (same (part s (length s - 40) 32) endMark)) _ _ (λ q. wrong-tail l λ e. true≢false (sym (true-same _ _ e) ∙ not-true _ q)) λ q₅.
       goes (tail-passes l (same-true _ _ (not-false _ q₅)))
-      (stage-one why.chunk _ (chunk-numbered mapName s (leAt 8 s (length s - 8)) (λ m. m ≡ why.chunk) refl)
-      (λ f. no-map-chunk λ r c. f r (read-chunk mapName s _ r c)) (λ r e. map-chunk-passes r (chunk-read mapName s _ r e))))
+      (stage-one why.chunk _ (chunk-numbered why.chunk mapName s (leAt 8 s (length s - 8)) (λ m. m ≡ why.chunk) refl refl)
+      (λ f. no-map-chunk λ r c. f r (read-chunk why.chunk mapName s _ r c)) (λ r e. map-chunk-passes r (chunk-read why.chunk mapName s _ r e))))
 
   -- ---- the map
 
@@ -131,12 +138,12 @@ module _ (s : List ℕ) (room : ℕ) where
           let (p, e) = mapped-unique s q r fs es x mp in
           f o (rw (p, e) l)
 
-      chunk-passes : (q : Range) → Named s m es (needed w) q → Passes (chunk w)
-      chunk-passes q x n (no-chunk {r = r′} {es = fs} {o = o} y l f) =
+      says-chunk : (o : ℕ) → Listed m (needed w) es o → (a : ChunkStage) (n : ℕ) → R (chunk w a) n → ChunkRefusal (needed w) s o a n
+      says-chunk o x a n (no-chunk {r = r′} {es = fs} {o = k} y l c) =
           let (p, e) = mapped-unique s r′ r fs es y mp in
-          let l₂ : Listed m (needed w) es o = rw (p, e) at l in
-          let k : o ≡ x .offset = Option·some-inj .0 (sym (read-listed m (needed w) es o l₂) ∙ read-listed m (needed w) es (x .offset) (x .listed)) in
-          f q (rw k (x .chunk))
+          let l₂ : Listed m (needed w) es k = rw (p, e) at l in
+          let i : k ≡ o = Option·some-inj .0 (sym (read-listed m (needed w) es k l₂) ∙ read-listed m (needed w) es o x) in
+          rw i at c
 
       table-passes : (q : Range) → Named s m es (needed w) q → length (treeIn s q .entries) ≤ room → Passes (table w)
       table-passes q x h n (table-short y) = not-too-many (needed w) q x h y
@@ -162,15 +169,14 @@ module _ (s : List ℕ) (room : ℕ) where
           go true e = goes (table-passes q x (leb-true _ _ e)) (fault-decides q x (treeIn s q .stop) refl)
           go false e = stops (table-short (too-many (needed w) q x (leb-false (length (treeIn s q .entries)) room e)))
 
-      named-decides : DecidesAt R (entry w ∷ chunk w ∷ table w ∷ fault w ∷ []) (namedTree s m es room (needed w))
+      named-decides : DecidesAt R (readStages w) (namedTree s m es room (needed w))
       unfolding namedTree namedChunk
       named-decides =
-          decides-then {front = entry w ∷ chunk w ∷ []} (namedChunk s m es (needed w)) _
-          (needs (offsetOf m (needed w) es) _ (chunkData [] s) (λ q. no-entry mp λ o l. none≢some (sym q ∙ read-listed m (needed w) es o l)) λ o q.
+          decides-then {front = entry w ∷ each (chunk w) chunkOrder} (namedChunk s m es (needed w)) _
+          (needs (offsetOf m (needed w) es) _ (chunkData why.chunkName (needed w) s)
+          (λ q. no-entry mp λ o l. none≢some (sym q ∙ read-listed m (needed w) es o l)) λ o q.
           let l = listed-read m (needed w) es o q in
-          goes (entry-passes o l)
-          (stage-one why.chunk _ (chunk-numbered [] s o (λ k. k ≡ why.chunk) refl) (λ f. no-chunk mp l λ c x. f c (read-chunk [] s o c x))
-          λ c e. chunk-passes c (record { offset = o; listed = l; chunk = chunk-read [] s o c e })))
+          goes (entry-passes o l) (decides-map (chunk w) (λ a n. no-chunk mp l) (says-chunk o l) (chunk-decides (needed w) s o)))
           λ q e. table-decides q (named-read s m es (needed w) q e)
 
     -- ---- the calibration
@@ -310,10 +316,10 @@ module _ (s : List ℕ) (room : ℕ) where
       decides-then {front = first-mark ∷ tail ∷ map-chunk ∷ []} (mapRange s) _ range-decides λ r e₁.
       decides-then {front = map ∷ []} (mapEntries (dataIn s r)) _ (map-decides r e₁) λ es e₂.
       let mp = mapped-read s r es e₁ e₂ in
-      decides-then {front = entry attributes ∷ chunk attributes ∷ table attributes ∷ fault attributes ∷ []} _ _ (named-decides r es mp attributes) λ ats e₃.
+      decides-then {front = readStages attributes} _ _ (named-decides r es mp attributes) λ ats e₃.
       let T = tree-there r es mp attributes ats e₃ in
       decides-then {front = sizes ∷ compression ∷ bits ∷ shape ∷ []} (attributesIn s ats) _ (attributes-decide ats T) λ a e₄.
-      decides-then {front = entry experiment ∷ chunk experiment ∷ table experiment ∷ fault experiment ∷ []} _ _ (named-decides r es mp experiment) λ ts e₅.
+      decides-then {front = readStages experiment} _ _ (named-decides r es mp experiment) λ ts e₅.
       let U = tree-there r es mp experiment ts e₅ in
       let M = tree-means s (U .place) ts (U .formed) in
       needs (asLevel (field s ts 0 (ascii "SLxExperiment"))) _ _
@@ -336,35 +342,58 @@ open-number file bytes = decides-first (open-decides file (roomIn (length bytes)
 pub open-number-only : (file : List ℕ) (room n m : ℕ) → FirstAt (OpenRefusal file room) openOrder n → FirstAt (OpenRefusal file room) openOrder m → n ≡ m
 open-number-only file room n m x y = first-once (stage-once file room) x y
 
--- ---- 18
+-- ---- 18 and 29
 
--- a stage that refuses with 18 has a tree with more records than the table has entries
-full : (s : List ℕ) (room : ℕ) (a : Stage) (n : ℕ) → OpenRefusal s room a n → n ≡ why.table → (name : List ℕ) × TreeRead name × TooMany s name room
+-- of the numbers from 18 on: 18 is said where a tree has more records than the table has entries, and 29 where the map leads from a needed name astray
+data High (s : List ℕ) (room : ℕ) : ℕ → Type 0 where
+  full : (name : List ℕ) → TreeRead name → TooMany s name room → High s room why.table
+  astray : (w : Needed) → EntryAstray s (needed w) → High s room why.chunkName
+
+high : (s : List ℕ) (room : ℕ) (a : Stage) (n : ℕ) → OpenRefusal s room a n → 18 ≤ n → High s room n
 unfolding ascii
-full s room a n (no-mark h) e = absurd (omega arith)
-full s room a n (old-mark h f) e = absurd (omega arith)
-full s room a n (other-mark h f g) e = absurd (omega arith)
-full s room a n (no-tail h) e = absurd (omega arith)
-full s room a n (wrong-tail h f) e = absurd (omega arith)
-full s room a n (no-map-chunk f) e = absurd (omega arith)
-full s room a n (no-map x f) e = absurd (omega arith)
-full s room a n (no-entry x f) e = absurd (omega arith)
-full s room a n (no-chunk x l f) e = absurd (omega arith)
-full s room a n (table-short {w = attributes} x) e = (needed attributes, attributesRead, x)
-full s room a n (table-short {w = experiment} x) e = (needed experiment, experimentRead, x)
-full s room a n (tree-fault {r = r} x f) e = let low = fault-low s r n (read-fault s r n f) in absurd (omega arith)
-full s room a n (no-sizes x f) e = absurd (omega arith)
-full s room a n (compressed x f) e = absurd (omega arith)
-full s room a n (wrong-bits x f) e = absurd (omega arith)
-full s room a n (wrong-shape x f) e = absurd (omega arith)
-full s room a n (no-level x f) e = absurd (omega arith)
-full s room a n (walk-fault {es = es} {i = i} x f) e = let h = walk-number s es (i ∷ []) n f in absurd (omega arith)
-full s room a n (misjudged x w f) e = let h = judge-number [] _ n f in absurd (omega arith)
-full s room a n (plane-over x h) e = absurd (omega arith)
-full s room a n (calibration-short x) e = (ascii "ImageCalibrationLV|0!", calibrationRead, x)
+high s room a n (no-mark h) l = absurd (omega arith)
+high s room a n (old-mark h f) l = absurd (omega arith)
+high s room a n (other-mark h f g) l = absurd (omega arith)
+high s room a n (no-tail h) l = absurd (omega arith)
+high s room a n (wrong-tail h f) l = absurd (omega arith)
+high s room a n (no-map-chunk f) l = absurd (omega arith)
+high s room a n (no-map x f) l = absurd (omega arith)
+high s room a n (no-entry x f) l = absurd (omega arith)
+high s room a n (no-chunk x k (no-head f)) l = absurd (omega arith)
+high s room a n (no-chunk {w = w} {r = r} {es = es} {o = o} x k (misnamed h f)) l = astray w (r, es, o, x, k, record { headed = h; another = f })
+high s room a n (no-chunk x k (no-data h f)) l = absurd (omega arith)
+high s room a n (table-short {w = attributes} x) l = full (needed attributes) attributesRead x
+high s room a n (table-short {w = experiment} x) l = full (needed experiment) experimentRead x
+high s room a n (tree-fault {r = r} x f) l = let low = fault-low s r n (read-fault s r n f) in absurd (omega arith)
+high s room a n (no-sizes x f) l = absurd (omega arith)
+high s room a n (compressed x f) l = absurd (omega arith)
+high s room a n (wrong-bits x f) l = absurd (omega arith)
+high s room a n (wrong-shape x f) l = absurd (omega arith)
+high s room a n (no-level x f) l = absurd (omega arith)
+high s room a n (walk-fault {es = es} {i = i} x f) l = let h = walk-number s es (i ∷ []) n f in absurd (omega arith)
+high s room a n (misjudged x w f) l = let h = judge-number [] _ n f in absurd (omega arith)
+high s room a n (plane-over x h) l = absurd (omega arith)
+high s room a n (calibration-short x) l = full (ascii "ImageCalibrationLV|0!") calibrationRead x
 
-pub open-table-full : (file bytes : List ℕ) → openCall file bytes .number ≡ why.table
-    → (name : List ℕ) × TreeRead name × TooMany file name (roomIn (length bytes))
-open-table-full file bytes e =
-    let (a, h) = first-from (open-number file bytes) (λ z. absurd (omega arith)) in
-    full file (roomIn (length bytes)) a (openCall file bytes .number) h e
+module _ (file bytes : List ℕ) where
+  abbrev room : ℕ
+  room = roomIn (length bytes)
+
+  said : {n : ℕ} → 18 ≤ n → openCall file bytes .number ≡ n → High file room n
+  said {n} h e =
+      let (a, x) = first-from (open-number file bytes) (λ z. absurd (omega arith)) in
+      rw e at (high file room a (openCall file bytes .number) x (omega arith))
+
+  pub open-table-full : openCall file bytes .number ≡ why.table → (name : List ℕ) × TreeRead name × TooMany file name room
+  open-table-full e = go (said (omega arith) e) refl
+    where
+      go : {n : ℕ} → High file room n → n ≡ why.table → (name : List ℕ) × TreeRead name × TooMany file name room
+      go (full name t x) e = (name, t, x)
+      go (astray w x) e = absurd (omega arith)
+
+  pub open-astray : openCall file bytes .number ≡ why.chunkName → (w : Needed) × EntryAstray file (needed w)
+  open-astray e = go (said (omega arith) e) refl
+    where
+      go : {n : ℕ} → High file room n → n ≡ why.chunkName → (w : Needed) × EntryAstray file (needed w)
+      go (full name t x) e = absurd (omega arith)
+      go (astray w x) e = (w, x)

@@ -20,6 +20,7 @@ use Rattle.format.specs.Loops.{Built, walk}
 use Rattle.format.specs.Grammar.Map.{Mapped, Named}
 use Rattle.format.specs.Grammar.Attributes.{Sized}
 use Rattle.format.specs.Grammar.Loops.{Walks}
+use Rattle.format.specs.Refused.Chunk.{no-head, misnamed, no-data}
 use Rattle.format.specs.Refused.Loops.{WalkFaults}
 use Rattle.format.specs.Refused.Open.{ChunkAt, TreeAt, SizesAt, ExperimentAt, Stage, OpenRefusal, no-mark, old-mark, other-mark, no-tail}
 use Rattle.format.specs.Refused.Open.{wrong-tail, no-map-chunk, no-map, no-entry, no-chunk, table-short, tree-fault, no-sizes, compressed}
@@ -108,7 +109,9 @@ stage-once s room a n m (wrong-tail h f) (wrong-tail k g) = refl
 stage-once s room a n m (no-map-chunk f) (no-map-chunk g) = refl
 stage-once s room a n m (no-map x f) (no-map y g) = refl
 stage-once s room a n m (no-entry x f) (no-entry y g) = refl
-stage-once s room a n m (no-chunk x l f) (no-chunk y k g) = refl
+stage-once s room a n m (no-chunk x l (no-head f)) (no-chunk y k (no-head g)) = refl
+stage-once s room a n m (no-chunk x l (misnamed h f)) (no-chunk y k (misnamed i g)) = refl
+stage-once s room a n m (no-chunk x l (no-data h f)) (no-chunk y k (no-data i g)) = refl
 stage-once s room a n m (table-short x) (table-short y) = refl
 stage-once s room a n m (tree-fault {r = r} x f) (tree-fault {r = q} y g) =
     let e = chunk-at-unique s _ r q x y in

@@ -9,13 +9,12 @@ use lib.Dec.{eqb}
 use lib.ListN.{length}
 use lib.Ieee.{Float}
 use Rattle.format.proofs.Answers.{refused≢given, given-inj}
-use Rattle.format.proofs.Orders.{decides-holds, nonzero, not-in}
-use Rattle.format.proofs.Lists.{all-in}
+use Rattle.format.proofs.Stages.{decides-from}
 use Rattle.format.proofs.Summaries.{read-sound}
 use Rattle.format.proofs.Sounds.{joined-sound}
 use Rattle.format.proofs.Files.{opened-iff-joined, opened-by}
 use Rattle.format.proofs.Demands.{opened-given}
-use Rattle.format.proofs.TreeCalls.{in-order, named-decides, named-whole}
+use Rattle.format.proofs.TreeCalls.{tree-staged, never-28, named-decides, named-whole}
 use Rattle.format.proofs.PicometresCalls.{calibrationName, means, size-found}
 use Rattle.format.proofs.Picometres.{sizeOf}
 use Rattle.format.specs.Answer.{Answer, refused, given, refuseIf, andThen, orRefuse, numberOf}
@@ -31,7 +30,6 @@ use Rattle.format.specs.Summary.{badSummary, summaryOf, mapOf}
 use Rattle.format.specs.Calls.Open.{opened, openCall, summaryOrZero}
 use Rattle.format.specs.Calls.Tree.{treeNamed}
 use Rattle.format.specs.Calls.Picometres.{picometresIn, picometresOf, sizeOrZero, picometresCall}
-use Rattle.format.specs.Refused.Tree.{treeOrder}
 use Rattle.format.specs.Refused.Picometres.{CalibrationTree, SizeAt}
 use Rattle.format.specs.Sentences.{StatedSize, SizeTold}
 use Rattle.format.specs.Sentences as sentences
@@ -54,9 +52,9 @@ module _ (s : List ℕ) (u : Summary) (room : ℕ) (es : List MapEntry) (map : m
   -- a tree's numbers
   tree-other : (n : ℕ) → namedTree s (mapOf s u) es room calibrationName ≡ refused n → Other n
   tree-other n e =
-      let i = in-order s u calibrationName room n (decides-holds (named-decides s u calibrationName room es map) e) in
-      let h = all-in i (nonzero treeOrder refl) in
-      (λ z. omega arith, λ z. not-in why.sizeRange treeOrder refl (rw z at i))
+      let (a, x) = decides-from (named-decides s u calibrationName room es map) e in
+      let h = tree-staged s u calibrationName room a n x .1 in
+      (λ z. omega arith, never-28 s u calibrationName room a n x)
 
   by-tree : (z : Option Float) (c : Calibration) (t : Answer (List Entry)) → namedTree s (mapOf s u) es room calibrationName ≡ t
       → calibrationBy s z t ≡ given c → Told s u c (andThen t (picometresIn s))

@@ -4,7 +4,6 @@ use mathlib.Core.Path.{_≡_, refl}
 use mathlib.Core.Logic.{_↔_}
 use mathlib.Core.Bool.{Bool, true, false, not, _&&_, false≢true}
 use mathlib.Core.List.{List, [], _∷_, _++_}
-use native.Mathlib.Decide.{ℕ-discrete}
 use native.Mathlib.Omega.{arith}
 use lib.Dec.{eqb, ltb}
 use borrow.Author.Tests.{eqb-false, ltb-true, ltb-false}
@@ -48,25 +47,6 @@ module _ {P : ℕ → Type 0} {A : Type 0} where
   decides-then x k (gives {a = a}) f = f a refl
   decides-then x k (goes h d) f = goes h (decides-then x k d f)
 
-  -- the same refusals among others
-  pub decides-as : {Q : ℕ → Type 0} {ns : List ℕ} {x : Answer A} → ((n : ℕ) → P n → Q n) → ((n : ℕ) → In n ns → Q n → P n) → Decides P ns x → Decides Q ns x
-  decides-as f g (stops {n = n} h) = stops (f n h)
-  decides-as f g gives = gives
-  decides-as f g (goes {n = n} h d) = goes (λ q. h (g n here q)) (decides-as f (λ m i. g m (behind i)) d)
-
-  pub decides-none : (ns : List ℕ) (a : A) → ((n : ℕ) → In n ns → P n → ⊥) → Decides P ns (given a)
-  decides-none [] a f = gives
-  decides-none (n ∷ ns) a f = goes (f n here) (decides-none ns a λ m i. f m (behind i))
-
-  -- where P holds of one number alone
-  pub decides-only : (ns : List ℕ) (n : ℕ) → In n ns → P n → ((m : ℕ) → In m ns → P m → m ≡ n) → Decides P {A = A} ns (refused n)
-  decides-only (m ∷ ns) n here h f = stops h
-  decides-only (m ∷ ns) n (behind i) h f = go (ℕ-discrete m n) (decides-only ns n i h λ k j. f k (behind j))
-    where
-      go : Dec (m ≡ n) → Decides P {A = A} ns (refused n) → Decides P {A = A} (m ∷ ns) (refused n)
-      go (yes e) d = rw e (stops h)
-      go (no e) d = goes (λ p. e (f m here p)) d
-
 -- ---- what a chain says
 
 module _ {P : ℕ → Type 0} {A : Type 0} where
@@ -76,12 +56,6 @@ module _ {P : ℕ → Type 0} {A : Type 0} where
   decides-first (stops h) = first h
   decides-first gives = accepted
   decides-first (goes h d) = passed h (decides-first d)
-
-  -- P holds of a refusal's number
-  pub decides-holds : {ns : List ℕ} {x : Answer A} {n : ℕ} → Decides P ns x → x ≡ refused n → P n
-  decides-holds {n = n} (stops {n = m} h) e = let k : m ≡ n = cc in rw k at h
-  decides-holds gives e = absurd (let z : _≡_ {A = ℕ} 0 1 = cc in omega arith)
-  decides-holds (goes h d) e = decides-holds d e
 
   -- a number that is 0 is an answer's
   pub decides-given : {ns : List ℕ} {x : Answer A} → All NotZero ns → Decides P ns x → numberOf x ≡ 0 → (a : A) × (x ≡ given a)
@@ -122,6 +96,12 @@ module _ {P : ℕ → Type 0} where
   none-first accepted f = refl
   none-first (first {n = n} h) f = absurd (f n h)
   none-first (passed g r) f = none-first r f
+
+  -- a number that is not 0 is one of the order
+  pub first-in : {ns : List ℕ} {n : ℕ} → First P ns n → (n ≡ 0 → ⊥) → In n ns
+  first-in accepted f = absurd (f refl)
+  first-in (first h) f = here
+  first-in (passed g r) f = behind (first-in r f)
 
   -- Where every refusal has a number of the order, the number is 0 exactly when none of them holds.
   pub accepted-iff : {ns : List ℕ} {n : ℕ} → All NotZero ns → ((k : ℕ) → P k → In k ns) → First P ns n → (n ≡ 0) ↔ ((k : ℕ) → P k → ⊥)

@@ -15,10 +15,9 @@ use Rattle.format.proofs.Means.{Means}
 use Rattle.format.proofs.Fields.{field-in, level-at}
 use Rattle.format.proofs.Named.{tree-means}
 use Rattle.format.proofs.Entries.{tree-once}
-use Rattle.format.proofs.Orders.{nonzero}
-use Rattle.format.proofs.Lists.{all-in, in-left, in-right, in-map}
-use Rattle.format.proofs.Stages.{DecidesAt, stage-one, decides-then, decides-first, decides-numbered, decides-staged, accepted-at, first-once}
-use Rattle.format.proofs.TreeCalls.{in-order, tree-decides, tree-whole}
+use Rattle.format.proofs.Lists.{in-left, in-right, in-map}
+use Rattle.format.proofs.Stages.{DecidesAt, stage-one, decides-then, decides-first, decides-numbered, decides-map, accepted-at, first-once}
+use Rattle.format.proofs.TreeCalls.{tree-staged, tree-stage-once, tree-decides, tree-whole}
 use Rattle.format.proofs.Picometres.{sizeOf, size-read, read-size, size-is, endless-read, above-read, read-above, in-picometres-once}
 use Rattle.format.specs.Answer.{Answer, refused, given, orRefuse, numberOf}
 use Rattle.format.specs.Bytes.{ascii, zeros}
@@ -33,7 +32,7 @@ use Rattle.format.specs.Calls.Picometres.{picometresIn, picometresOf, si
 use Rattle.format.specs.Grammar.Lists.{In, here, behind}
 use Rattle.format.specs.Grammar.Picometres.{SizeStated}
 use Rattle.format.specs.Refused.Order.{FirstAt}
-use Rattle.format.specs.Refused.Tree.{TreeRefusal, treeOrder}
+use Rattle.format.specs.Refused.Tree.{TreeStage, TreeRefusal, treeOrder}
 use Rattle.format.specs.Refused.Picometres as stages
 use Rattle.format.specs.Refused.Picometres.{PicometresStage, reading, picometresOrder, CalibrationTree, SizeAt, SizeIs}
 use Rattle.format.specs.Refused.Picometres.{PicometresRefusal, tree-refused, no-size, endless, too-large}
@@ -104,8 +103,8 @@ module _ (s : List ℕ) (u : Summary) where
     abbrev Q : PicometresStage → ℕ → Type 0
     Q = PicometresRefusal s u room
 
-    says-tree : (n m : ℕ) → Q (reading n) m → TreeRefusal s u calibrationName room n
-    says-tree n m (tree-refused x) = x
+    says-tree : (a : TreeStage) (n : ℕ) → Q (reading a) n → TreeRefusal s u calibrationName room a n
+    says-tree a n (tree-refused x) = x
 
     module _ (es : List Entry) (t : CalibrationTree s u es) where
       size-decides : DecidesAt Q (stages.size ∷ []) (orRefuse (pixelSize s es) why.missing)
@@ -156,19 +155,19 @@ module _ (s : List ℕ) (u : Summary) where
     unfolding picometresOf
     picometres-decides =
         decides-then {front = map reading treeOrder} (treeNamed s u calibrationName room) (picometresIn s)
-        (decides-staged reading (λ n. tree-refused) says-tree (tree-decides s u calibrationName room)) λ es e.
+        (decides-map reading (λ a n. tree-refused) says-tree (tree-decides s u calibrationName room)) λ es e.
         let (r, c, t, h) = tree-whole s u calibrationName room es e in
         in-decides es (record { place = r; chunk = c; tree = t })
 
     -- every refusal is of a stage in the order, and has a number
     staged : (a : PicometresStage) (k : ℕ) → Q a k → In a picometresOrder × (0 < k)
-    staged a k (tree-refused {n = n} x) = let i = in-order s u calibrationName room n x in (in-left _ (in-map reading i), all-in i (nonzero treeOrder refl))
+    staged a k (tree-refused {a = b} x) = let (i, h) = tree-staged s u calibrationName room b k x in (in-left _ (in-map reading i), h)
     staged a k (no-size t f) = (in-right (map reading treeOrder) here, lit< tt)
     staged a k (endless t i) = (in-right (map reading treeOrder) (behind here), lit< tt)
     staged a k (too-large t h) = (in-right (map reading treeOrder) (behind here), lit< tt)
 
     once : (a : PicometresStage) (n m : ℕ) → Q a n → Q a m → n ≡ m
-    once a n m (tree-refused x) (tree-refused y) = refl
+    once a n m (tree-refused {a = b} x) (tree-refused y) = tree-stage-once s u calibrationName room b n m x y
     once a n m (no-size t f) (no-size v g) = refl
     once a n m (endless t i) (endless v j) = refl
     once a n m (endless t i) (too-large v j) = refl

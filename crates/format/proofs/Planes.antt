@@ -1,27 +1,27 @@
--- A plane call's number is the first of its refusals in order, and what an accepted one has written. Assumes nothing.
+-- A plane call's number is what its first stage that refuses gives, and what an accepted one has written. Assumes nothing.
 use Prim.Native.Nat.{ℕ, zero, suc, _+_, _-_, _*_, _/_, _%_, _^_, _≤_, _<_}
 use mathlib.Core.Path.{_≡_, refl, sym, _∙_}
-use mathlib.Core.Logic.{_↔_}
 use mathlib.Core.Bool.{false, _||_, true≢false}
-use mathlib.Core.List.{List, [], _∷_}
+use mathlib.Core.Option.{some}
+use mathlib.Core.List.{List, [], _∷_, _++_, map as each}
 use native.Mathlib.Nat.{suc-mul, mul-le-mul-right, div-lt-iff-lt-mul, mod-lt, mul-add-div-right, mul-add-mod-self-right, mod-eq-of-lt, div-eq-of-lt, add-zero, zero-mul}
 use native.Mathlib.Omega.{arith}
-use lib.Dec.{ltb, leb}
+use lib.Dec.{ltb, leb, lit<}
 use lib.ListN.{length, getD, length-append, List·getD-append}
 use lib.Seq.{getD-append-add}
-use borrow.Author.Tests.{ltb-false, le-ltb, leb-false, lt-leb}
+use borrow.Author.Tests.{ltb-true, ltb-false, le-ltb, leb-false, lt-leb}
 use Rattle.format.proofs.Tests.{or-left, or-right, or-none}
 use Rattle.format.proofs.Bytes.{part-length, part-at}
 use Rattle.format.proofs.Buffers.{over-at, over-later, over-length}
-use Rattle.format.proofs.Answers.{refuseIf-given, andThen-given, orRefuse-given, given-inj, found, orRefuse-numbered}
-use Rattle.format.proofs.Orders.{Decides, gives, decides-if, decides-less, decides-one, decides-then, decides-as, decides-first, decides-given}
-use Rattle.format.proofs.Orders.{nonzero, not-in, accepted-iff}
-use Rattle.format.proofs.Lists.{in-left, in-last}
-use Rattle.format.proofs.Chunks.{chunk-read, chunk-numbered}
+use Rattle.format.proofs.Answers.{refuseIf-given, andThen-given, orRefuse-given, given-inj, none≢some}
+use Rattle.format.proofs.Stages.{DecidesAt, gives, goes, tests, needs, stage-one, decides-then, decides-map}
+use Rattle.format.proofs.Stages.{decides-first, decides-given, accepted-at, first-once}
+use Rattle.format.proofs.Lists.{in-left, in-right, in-map}
+use Rattle.format.proofs.Chunks.{chunk-read, chunk-decides, chunk-staged}
 use Rattle.format.proofs.Maps.{map-read, read-map, map-numbered}
-use Rattle.format.proofs.Summaries.{sound-read, unsound}
+use Rattle.format.proofs.Summaries.{sound-read, unsound as unsound-read}
 use Rattle.format.proofs.Names.{seq-digits}
-use Rattle.format.proofs.Entries.{frame-entry, entry-frame, frame-chunk}
+use Rattle.format.proofs.Entries.{frame-entry, entry-frame, frame-chunk, frame-refused as refused-frame}
 use Rattle.format.specs.Answer.{Answer, refused, given, refuseIf, andThen, orRefuse, numberOf}
 use Rattle.format.specs.Bytes.{part, most64, over}
 use Rattle.format.specs.Refusals as why
@@ -35,11 +35,14 @@ use Rattle.format.specs.Calls.Plane.{mostPlaneBytes as most}
 use Rattle.format.specs.Grammar.Lists.{In, here, behind}
 use Rattle.format.specs.Grammar.Attributes.{Shape}
 use Rattle.format.specs.Grammar.Map.{MapOf}
-use Rattle.format.specs.Refused.Order.{First}
+use Rattle.format.specs.Refused.Order.{FirstAt}
 use Rattle.format.specs.Refused.Summary.{Sound}
 use Rattle.format.specs.Refused.Plane.{Within, FrameEntry, FrameData, FrameLong, Copied}
-use Rattle.format.specs.Refused.Plane.{FrameRefusal, summary, index, ceiling, map, no-frame, chunk, frame-short, frameOrder}
-use Rattle.format.specs.Refused.Plane.{PlaneRefusal, frame, buffer, planeOrder}
+use Rattle.format.specs.Refused.Chunk.{ChunkStage, chunkOrder, ChunkRefusal, no-head, misnamed, no-data}
+use Rattle.format.specs.Refused.Plane.{FrameStage, summary, index, ceiling, map, entry, chunk, rows, frameOrder}
+use Rattle.format.specs.Refused.Plane.{FrameRefusal, unsound, out-of-range, too-large, no-map, no-frame, no-chunk, frame-short}
+use Rattle.format.specs.Refused.Plane.{PlaneStage, frame, buffer, planeOrder, PlaneRefusal, frame-refused, buffer-short}
+use Rattle.format.specs.Sentences.{AcceptedUnless, AtSome}
 use Rattle.format.specs.declared.Range.{Range}
 use Rattle.format.specs.declared.Attributes.{Attributes}
 use Rattle.format.specs.declared.Axis.the-variants.{T, Z, P}
@@ -65,7 +68,7 @@ index-read u scene t c z e =
       leb-false _ _ (or-right (t₁ || t₂) t₃ e₃),
     )
 
-read-index : (u : Summary) (scene t c z : ℕ) → Within (loopsOf u) scene t z → c < u .components → badIndex u scene t c z ≡ false
+pub read-index : (u : Summary) (scene t c z : ℕ) → Within (loopsOf u) scene t z → c < u .components → badIndex u scene t c z ≡ false
 unfolding badIndex
 read-index u scene t c z w h =
     or-none _ _ (or-none _ _ (or-none _ _ (lt-leb _ _ (w .scene-below)) (lt-leb _ _ (w .t-below))) (lt-leb _ _ h)) (lt-leb _ _ (w .z-below))
@@ -90,110 +93,140 @@ read-long u r l = or-none _ _ (or-none _ _ (le-ltb _ _ (l .prefix)) (le-ltb _ _ 
 -- ---- the number
 
 module _ (s : List ℕ) (u : Summary) (scene t c z : ℕ) where
-  abbrev F : ℕ → Type 0
+  abbrev F : FrameStage → ℕ → Type 0
   F = FrameRefusal s u scene t c z
+
+  -- no number refuses at this stage
+  abbrev Passes : FrameStage → Type 0
+  Passes a = (n : ℕ) → F a n → ⊥
 
   abbrev seq : ℕ
   seq = seqIndex (loopsOf u) scene t z
 
-  -- what each refusal says
-  says-summary : F why.summary → Sound s u → ⊥
-  says-summary (summary f) = f
+  summary-passes : Sound s u → Passes summary
+  summary-passes g n (unsound f) = f g
 
-  says-index : F why.index → Within (loopsOf u) scene t z → c < u .components → ⊥
-  says-index (index f) = f
+  index-passes : Within (loopsOf u) scene t z → c < u .components → Passes index
+  index-passes w h n (out-of-range f) = f w h
 
-  says-ceiling : F why.ceiling → most < planeBytes (shapeOf u)
-  says-ceiling (ceiling h) = h
+  ceiling-passes : planeBytes (shapeOf u) ≤ most → Passes ceiling
+  ceiling-passes h n (too-large l) = omega arith
 
-  says-map : F why.map → (es : List MapEntry) → MapOf (mapOf s u) es → ⊥
-  says-map (map f) = f
+  map-passes : (es : List MapEntry) → MapOf (mapOf s u) es → Passes map
+  map-passes es x n (no-map f) = f es x
 
-  says-frame : F why.noFrame → (o : ℕ) → FrameEntry s u seq o → ⊥
-  says-frame (no-frame f) = f
+  entry-passes : (o : ℕ) → FrameEntry s u seq o → Passes entry
+  entry-passes o x n (no-frame f) = f o x
 
-  says-chunk : F why.chunk → (r : Range) → FrameData s u seq r → ⊥
-  says-chunk (chunk f) = f
+  -- where the map has the frame's entry at o: its chunk, and the chunk's length
+  module _ (es : List MapEntry) (e : mapEntries (mapOf s u) ≡ given es) (l : seq < 10 ^ 20) (o : ℕ) (q : offsetOf (mapOf s u) (frameName seq) es ≡ some o) where
+    says-chunk : (a : ChunkStage) (n : ℕ) → F (chunk a) n → ChunkRefusal (frameName seq) s o a n
+    says-chunk a n (no-chunk {o = k} x r) = refused-frame s u es e seq l o q k n a x r
 
-  says-short : F why.frameShort → (r : Range) → FrameData s u seq r → FrameLong u r → ⊥
-  says-short (frame-short f) = f
+    rows-passes : (r : Range) → chunkData why.chunkName (frameName seq) s o ≡ given r → FrameLong u r → Passes rows
+    rows-passes r f h n (frame-short {r = k} x g) = g (rw (given-inj (sym f ∙ frame-chunk s u es e seq l o k q x)) at h)
 
-  -- the frame's entry, its chunk and the chunk's length
+    chunk-found : DecidesAt F (each chunk chunkOrder ++ rows ∷ [])
+        (andThen (chunkData why.chunkName (frameName seq) s o) λ r. refuseIf (badFrame u (r .len)) why.frameShort (given r))
+    unfolding frame-entry
+    chunk-found =
+        let x = frame-entry s u es e seq l o q in
+        decides-then {front = each chunk chunkOrder} (chunkData why.chunkName (frameName seq) s o) _
+        (decides-map chunk (λ a n. no-chunk x) says-chunk (chunk-decides (frameName seq) s o)) λ r f.
+        let y : FrameData s u seq r = record { offset = o; entry = x; chunk = chunk-read why.chunkName (frameName seq) s o r f } in
+        tests (badFrame u (r .len)) why.frameShort _ (λ b. frame-short y λ h. true≢false (sym b ∙ read-long u r h)) λ b.
+        goes (rows-passes r f (long-read u r b)) gives
+
   entry-decides : (es : List MapEntry) → mapEntries (mapOf s u) ≡ given es → seq < 10 ^ 20
-      → Decides F (why.noFrame ∷ why.chunk ∷ why.frameShort ∷ [])
+      → DecidesAt F (entry ∷ each chunk chunkOrder ++ rows ∷ [])
       (andThen (orRefuse (offsetOf (mapOf s u) (frameName seq) es) why.noFrame) λ o.
-      andThen (chunkData [] s o) λ r. refuseIf (badFrame u (r .len)) why.frameShort (given r))
+      andThen (chunkData why.chunkName (frameName seq) s o) λ r. refuseIf (badFrame u (r .len)) why.frameShort (given r))
   entry-decides es e l =
-      decides-then {ns = why.noFrame ∷ []} (orRefuse (offsetOf (mapOf s u) (frameName seq) es) why.noFrame) _
-      (decides-one why.noFrame _ (orRefuse-numbered _ why.noFrame refl)
-      (λ f. no-frame λ o x. f o (found _ why.noFrame o (entry-frame s u es e seq l o x)))
-      (λ o q p. says-frame p o (frame-entry s u es e seq l o (orRefuse-given _ why.noFrame q)))) λ o q₁.
-      let e₁ = orRefuse-given (offsetOf (mapOf s u) (frameName seq) es) why.noFrame q₁ in
-      let data-at : (r : Range) → chunkData [] s o ≡ given r → FrameData s u seq r =
-      λ r q. record { offset = o; entry = frame-entry s u es e seq l o e₁; chunk = chunk-read [] s o r q } in
-      decides-then {ns = why.chunk ∷ []} (chunkData [] s o) _
-      (decides-one why.chunk _ (chunk-numbered [] s o (λ m. m ≡ why.chunk) refl) (λ f. chunk λ r x. f r (frame-chunk s u es e seq l o r e₁ x))
-      (λ r q p. says-chunk p r (data-at r q))) λ r q₂.
-      decides-if (badFrame u (r .len)) why.frameShort _
-      (λ q. frame-short λ r′ x y. let k : r′ ≡ r = given-inj (sym (frame-chunk s u es e seq l o r′ e₁ x) ∙ q₂) in true≢false (sym q ∙ read-long u r (rw k at y)))
-      (λ q p. says-short p r (data-at r q₂) (long-read u r q)) λ q₃. gives
+      needs (offsetOf (mapOf s u) (frameName seq) es) _ _ (λ q. no-frame λ o x. none≢some (sym q ∙ entry-frame s u es e seq l o x)) λ o q.
+      goes (entry-passes o (frame-entry s u es e seq l o q)) (chunk-found es e l o q)
 
-  pub frame-decides : Decides F frameOrder (frameOf s u scene t c z)
+  pub frame-decides : DecidesAt F frameOrder (frameOf s u scene t c z)
   unfolding frameOf
   frame-decides =
-      decides-if (badSummary s u) why.summary _ (λ q. summary (unsound s u q)) (λ q p. says-summary p (sound-read s u q)) λ q₁.
-      decides-if (badIndex u scene t c z) why.index _ (λ q. index λ w h. true≢false (sym q ∙ read-index u scene t c z w h))
-      (λ q p. let (w, h) = index-read u scene t c z q in says-index p w h) λ q₂.
-      decides-less most (planeBytes (shapeOf u)) why.ceiling _ ceiling says-ceiling
-      (decides-then {ns = why.map ∷ []} (mapEntries (mapOf s u)) _
-      (decides-one why.map _ (map-numbered (mapOf s u) (λ m. m ≡ why.map) refl) (λ f. map λ es x. f es (read-map _ es x))
-      (λ es q p. says-map p es (map-read _ es q))) λ es e.
-      entry-decides es e (seq-digits s u scene t z (sound-read s u q₁) (index-read u scene t c z q₂ .0)))
+      tests (badSummary s u) why.summary _ (λ q. unsound (unsound-read s u q)) λ q₁.
+      goes (summary-passes (sound-read s u q₁))
+      (tests (badIndex u scene t c z) why.index _ (λ q. out-of-range λ w h. true≢false (sym q ∙ read-index u scene t c z w h)) λ q₂.
+      let (w, h) = index-read u scene t c z q₂ in
+      goes (index-passes w h)
+      (tests (ltb most (planeBytes (shapeOf u))) why.ceiling _ (λ q. too-large (ltb-true _ _ q)) λ q₃.
+      goes (ceiling-passes (ltb-false _ _ q₃))
+      (decides-then {front = map ∷ []} (mapEntries (mapOf s u)) _
+      (stage-one why.map _ (map-numbered (mapOf s u) (λ m. m ≡ why.map) refl) (λ f. no-map λ es x. f es (read-map _ es x))
+      (λ es q. map-passes es (map-read _ es q))) λ es e.
+      entry-decides es e (seq-digits s u scene t z (sound-read s u q₁) w))))
 
-  pub frame-in-order : (k : ℕ) → F k → In k frameOrder
-  frame-in-order k (summary f) = here
-  frame-in-order k (index f) = behind here
-  frame-in-order k (ceiling f) = behind (behind here)
-  frame-in-order k (map f) = behind (behind (behind here))
-  frame-in-order k (no-frame f) = behind (behind (behind (behind here)))
-  frame-in-order k (chunk f) = behind (behind (behind (behind (behind here))))
-  frame-in-order k (frame-short f) = behind (behind (behind (behind (behind (behind here)))))
+  -- every refusal is of a stage in the order, and has a number
+  pub frame-staged : (a : FrameStage) (n : ℕ) → F a n → In a frameOrder × (0 < n)
+  frame-staged a n (unsound f) = (here, lit< tt)
+  frame-staged a n (out-of-range f) = (behind here, lit< tt)
+  frame-staged a n (too-large h) = (behind (behind here), lit< tt)
+  frame-staged a n (no-map f) = (behind (behind (behind here)), lit< tt)
+  frame-staged a n (no-frame f) = (behind (behind (behind (behind here))), lit< tt)
+  frame-staged a n (no-chunk {o = o} {a = b} x r) =
+      let (i, h) = chunk-staged (x .name) s o b n r in
+      (behind (behind (behind (behind (behind (in-left (rows ∷ []) (in-map chunk i)))))), h)
+  frame-staged a n (frame-short x f) = (behind (behind (behind (behind (behind (in-right (each chunk chunkOrder) here))))), lit< tt)
+
+  -- each stage has one number
+  pub frame-stage-once : (a : FrameStage) (n m : ℕ) → F a n → F a m → n ≡ m
+  frame-stage-once a n m (unsound f) (unsound g) = refl
+  frame-stage-once a n m (out-of-range f) (out-of-range g) = refl
+  frame-stage-once a n m (too-large h) (too-large k) = refl
+  frame-stage-once a n m (no-map f) (no-map g) = refl
+  frame-stage-once a n m (no-frame f) (no-frame g) = refl
+  frame-stage-once a n m (no-chunk x (no-head f)) (no-chunk y (no-head g)) = refl
+  frame-stage-once a n m (no-chunk x (misnamed h f)) (no-chunk y (misnamed k g)) = refl
+  frame-stage-once a n m (no-chunk x (no-data h f)) (no-chunk y (no-data k g)) = refl
+  frame-stage-once a n m (frame-short x f) (frame-short y g) = refl
 
 module _ (s : List ℕ) (u : Summary) (scene t c z : ℕ) (buf : List ℕ) where
-  abbrev R : ℕ → Type 0
+  abbrev R : PlaneStage → ℕ → Type 0
   R = PlaneRefusal s u scene t c z buf
 
-  says-buffer : R why.buffer → length buf < planeBytes (shapeOf u)
-  says-buffer (frame f) = absurd (not-in why.buffer frameOrder refl (frame-in-order s u scene t c z why.buffer f))
-  says-buffer (buffer h) = h
+  says-frame : (a : FrameStage) (n : ℕ) → R (frame a) n → FrameRefusal s u scene t c z a n
+  says-frame a n (frame-refused f) = f
 
-  says-frame-of : (n : ℕ) → In n frameOrder → R n → FrameRefusal s u scene t c z n
-  says-frame-of n i (frame f) = f
-  says-frame-of n i (buffer h) = absurd (not-in why.buffer frameOrder refl i)
+  buffer-passes : planeBytes (shapeOf u) ≤ length buf → (n : ℕ) → R buffer n → ⊥
+  buffer-passes h n (buffer-short l) = omega arith
 
-  plane-decides : Decides R planeOrder (frameFor s u scene t c z (length buf))
+  plane-decides : DecidesAt R planeOrder (frameFor s u scene t c z (length buf))
   unfolding frameFor
   plane-decides =
-      decides-then {ns = frameOrder} (frameOf s u scene t c z) _ (decides-as (λ n. frame) says-frame-of (frame-decides s u scene t c z)) λ r e.
-      decides-less (length buf) (planeBytes (shapeOf u)) why.buffer _ buffer says-buffer gives
+      decides-then {front = each frame frameOrder} (frameOf s u scene t c z) _
+      (decides-map frame (λ a n. frame-refused) says-frame (frame-decides s u scene t c z)) λ r e.
+      tests (ltb (length buf) (planeBytes (shapeOf u))) why.buffer _ (λ q. buffer-short (ltb-true _ _ q)) λ q.
+      goes (buffer-passes (ltb-false _ _ q)) gives
 
   by-number : (x : Answer Range) → planeBy s u c buf x .number ≡ numberOf x
   unfolding planeBy numberOf
   by-number (refused n) = refl
   by-number (given r) = refl
 
-  -- The plane call's number is the first of its refusals in order.
-  pub plane-number : First R planeOrder (planeCall s u scene t c z buf .number)
+  -- The plane call's number is what its first stage that refuses gives.
+  pub plane-number : FirstAt R planeOrder (planeCall s u scene t c z buf .number)
   unfolding planeCall
   plane-number = rw (by-number (frameFor s u scene t c z (length buf))) (decides-first plane-decides)
 
-  in-order : (k : ℕ) → R k → In k planeOrder
-  in-order k (frame f) = in-left (why.buffer ∷ []) (frame-in-order s u scene t c z k f)
-  in-order k (buffer h) = in-last why.buffer frameOrder
+  pub plane-stage-once : (a : PlaneStage) (n m : ℕ) → R a n → R a m → n ≡ m
+  plane-stage-once a n m (frame-refused {a = b} f) (frame-refused g) = frame-stage-once s u scene t c z b n m f g
+  plane-stage-once a n m (buffer-short h) (buffer-short k) = refl
 
-  -- It is 0 exactly when none of them holds.
-  pub plane-accepted : (planeCall s u scene t c z buf .number ≡ 0) ↔ ((k : ℕ) → PlaneRefusal s u scene t c z buf k → ⊥)
-  plane-accepted = accepted-iff (nonzero planeOrder refl) in-order plane-number
+  -- No other number is.
+  pub plane-number-only : (n m : ℕ) → FirstAt R planeOrder n → FirstAt R planeOrder m → n ≡ m
+  plane-number-only n m x y = first-once plane-stage-once x y
+
+  staged : (a : PlaneStage) (n : ℕ) → R a n → In a planeOrder × (0 < n)
+  staged a n (frame-refused {a = b} f) = let (i, h) = frame-staged s u scene t c z b n f in (in-left (buffer ∷ []) (in-map frame i), h)
+  staged a n (buffer-short h) = (in-right (each frame frameOrder) here, lit< tt)
+
+  -- It is 0 exactly when no stage refuses.
+  pub plane-accepted : AcceptedUnless (AtSome R) (planeCall s u scene t c z buf .number)
+  plane-accepted = accepted-at staged plane-number
 
 -- ---- the samples
 
@@ -255,6 +288,7 @@ sample-within a len c y x g h₂ h₃ hc hy hx =
 -- what a frame that is given has
 pub record Found (s : List ℕ) (u : Summary) (scene t c z : ℕ) (r : Range) : Type 0 where
   pub sound : Sound s u
+  pub in-range : Within (loopsOf u) scene t z
   pub component : c < u .components
   pub ceiling-kept : planeBytes (shapeOf u) ≤ most
   pub frame-data : FrameData s u (seqIndex (loopsOf u) scene t z) r
@@ -262,7 +296,7 @@ pub record Found (s : List ℕ) (u : Summary) (scene t c z : ℕ) (r : Range) : 
 
 module _ (s : List ℕ) (u : Summary) (scene t c z : ℕ) (r : Range) where
   pub frame-found : frameOf s u scene t c z ≡ given r → Found s u scene t c z r
-  unfolding frameOf
+  unfolding frameOf frame-entry
   frame-found e₀ =
       let n = seqIndex (loopsOf u) scene t z in
       let (f₂, e₃) = refuseIf-given (badSummary s u) why.summary _ e₀ in
@@ -270,19 +304,20 @@ module _ (s : List ℕ) (u : Summary) (scene t c z : ℕ) (r : Range) where
       let (f₄, e₅) = refuseIf-given (ltb most (planeBytes (shapeOf u))) why.ceiling _ e₄ in
       let (es, f₅, e₆) = andThen-given (mapEntries (mapOf s u)) _ e₅ in
       let (o, f₆, e₇) = andThen-given (orRefuse (offsetOf (mapOf s u) (frameName n) es) why.noFrame) _ e₆ in
-      let (q, f₇, e₈) = andThen-given (chunkData [] s o) _ e₇ in
+      let (q, f₇, e₈) = andThen-given (chunkData why.chunkName (frameName n) s o) _ e₇ in
       let (f₈, e₉) = refuseIf-given (badFrame u (q .len)) why.frameShort (given q) e₈ in
       let j : q ≡ r = given-inj e₉ in
       let g = sound-read s u f₂ in
       let (w, h) = index-read u scene t c z f₃ in
       record {
         sound = g;
+        in-range = w;
         component = h;
         ceiling-kept = ltb-false _ _ f₄;
         frame-data = record {
           offset = o;
           entry = frame-entry s u es f₅ n (seq-digits s u scene t z g w) o (orRefuse-given _ why.noFrame f₆);
-          chunk = chunk-read [] s o r (rw j at f₇);
+          chunk = chunk-read why.chunkName (frameName n) s o r (rw j at f₇);
         };
         frame-long = rw j at (long-read u q f₈);
       }
@@ -356,14 +391,20 @@ module _ (s : List ℕ) (u : Summary) (scene t c z : ℕ) (buf : List ℕ) where
       let k : r′ ≡ r = given-inj e₂ in
       record { frame-found = frame-found s u scene t c z r (rw k at e₀); room = ltb-false _ _ f₁ }
 
+  plane-given : planeCall s u scene t c z buf .number ≡ 0 → (r : Range) × (frameFor s u scene t c z (length buf) ≡ given r)
+  unfolding planeCall planeBy
+  plane-given e =
+      let x = frameFor s u scene t c z (length buf) in
+      decides-given (λ a n w. staged s u scene t c z buf a n w .1) (plane-decides s u scene t c z buf) (sym (by-number s u scene t c z buf x) ∙ e)
+
+  pub plane-found : planeCall s u scene t c z buf .number ≡ 0 → (r : Range) × Found s u scene t c z r
+  plane-found e = let (r, q) = plane-given e in (r, ready r q .frame-found)
+
   -- Where the plane call gives 0, every sample's bytes are those of its frame's chunk, and later bytes are as they were.
   pub plane-sample : planeCall s u scene t c z buf .number ≡ 0
       → (r : Range) × FrameData s u (seqIndex (loopsOf u) scene t z) r × Copied u c (dataIn s r) buf (planeCall s u scene t c z buf .buffer)
   unfolding planeCall planeBy
-  plane-sample e =
-      let x = frameFor s u scene t c z (length buf) in
-      let (r, q) = decides-given (nonzero planeOrder refl) (plane-decides s u scene t c z buf) (sym (by-number s u scene t c z buf x) ∙ e) in
-      by r q
+  plane-sample e = let (r, q) = plane-given e in by r q
     where
       by : (r : Range) → frameFor s u scene t c z (length buf) ≡ given r
           → (r : Range) × FrameData s u (seqIndex (loopsOf u) scene t z) r

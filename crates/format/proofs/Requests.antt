@@ -11,9 +11,10 @@ use Rattle.format.specs.Values.{flag, whole, bind}
 use Rattle.format.specs.Numbers.{oneIf, unsigned, signed, float}
 use Rattle.format.specs.Grammar.Numbers.{stored}
 use Rattle.format.specs.Grammar.Picometres.{whole-number}
-use Rattle.format.specs.Requests.{Sheets, NameChecks, WholeNumbers, Picometres}
+use Rattle.format.specs.Requests.{Sheets, NameChecks, WholeNumbers, Picometres, ChunkNames}
+use Rattle.format.specs.Calls.Open.{openCall}
 use Rattle.format.proofs.Sheets.{rule-is, sheet-only}
-use Rattle.format.proofs.SheetCalls.{write-number, write-accepted, write-refused, written, plane-written}
+use Rattle.format.proofs.SheetCalls.{write-number, write-number-only, write-accepted, write-refused, written, plane-written}
 use Rattle.format.proofs.SheetCalls.{read-number, read-accepted, read-refused, read-zero, read-taken, turned-away, read-back}
 use Rattle.format.proofs.Compared.{as-before, comparison-is, plain-name, looked-most, no-further}
 use Rattle.format.proofs.DoubleEdges.{minus-zero, last-u64, past-u64, last-i64, past-i64, least-i64, below-i64, fractions, smallest}
@@ -28,12 +29,19 @@ use Rattle.format.proofs.PicometresCalls.{picometres-size, size-once}
 use Rattle.format.proofs.OpenedSize.{opened-size}
 use Rattle.format.proofs.Named.{tree-means}
 use Rattle.format.proofs.Absent.{counts-as-absent, open-whole, open-typed}
+use Rattle.format.proofs.Stages.{decides-first}
+use Rattle.format.proofs.Chunks.{chunk-decides, longer-passes}
+use Rattle.format.proofs.Names.{begins-once}
+use Rattle.format.proofs.Demands.{third}
+use Rattle.format.proofs.ChunkNames.{never-neighbour, map-name-4, plane-named, sheet-named, tree-named, picometres-named, open-named}
+use Rattle.format.proofs.ChunkNames.{calibration-named, channels-named, channels-never, register-never}
 
 pub sheets : Sheets
 sheets = record {
   rule-is = rule-is;
   sheet-only = sheet-only;
   write-number = write-number;
+  write-number-only = write-number-only;
   write-accepted = write-accepted;
   write-refused = write-refused;
   written = written;
@@ -117,4 +125,22 @@ picometres = record {
   size = picometres-size;
   size-once = size-once;
   opened-size = opened-size;
+}
+
+pub chunk-names : ChunkNames
+chunk-names = record {
+  one-frame = λ n m a b name. begins-once;
+  never-neighbour = never-neighbour;
+  chunk-number = λ name s o. decides-first (chunk-decides name s o);
+  longer-passes = longer-passes;
+  map-name-4 = map-name-4;
+  plane-named = plane-named;
+  sheet-named = sheet-named;
+  tree-named = tree-named;
+  picometres-named = picometres-named;
+  open-named = open-named;
+  calibration-missing = λ file table e. calibration-named file (openCall file table .summary) (third .returns-theirs file table e);
+  channels-missing = channels-named;
+  channels-never = channels-never;
+  register-never = register-never;
 }

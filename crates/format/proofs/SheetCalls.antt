@@ -3,12 +3,12 @@ use Prim.Native.Nat.{ℕ, _+_, _≤_, _<_}
 use mathlib.Core.Path.{_≡_, refl, sym, ap, _∙_}
 use mathlib.Core.Logic.{_↔_}
 use mathlib.Core.Bool.{Bool, true, false}
-use mathlib.Core.List.{List, [], _∷_, _++_}
+use mathlib.Core.List.{List, [], _∷_, map}
 use native.Mathlib.Omega.{arith}
-use lib.Dec.{ltb}
+use lib.Dec.{ltb, lit<}
 use lib.ListN.{length, take, drop, length-replicate}
 use lib.Seq.{take-at, drop-at}
-use borrow.Author.Tests.{ltb-false, le-ltb}
+use borrow.Author.Tests.{ltb-true, ltb-false, le-ltb}
 use Rattle.format.specs.Answer.{Answer, given, refused, refuseIf, andThen, numberOf}
 use Rattle.format.specs.Bytes.{over, zeros}
 use Rattle.format.specs.Refusals as why
@@ -19,20 +19,21 @@ use Rattle.format.specs.Calls.Plane.{frameOf, frameFor, planeSamples, pl
 use Rattle.format.specs.Calls.Sheet.{sheetFor, sheetBy, sheetCall, SheetSaid, sheetFrom, sheetInto, SheetOutcome, sheetReadBy, sheetReadCall}
 use Rattle.format.specs.Grammar.Lists.{In, here, behind}
 use Rattle.format.specs.Grammar.Sheets.{SheetSizes, SheetOf}
-use Rattle.format.specs.Refused.Order.{First}
-use Rattle.format.specs.Refused.Plane.{FrameRefusal, frameOrder}
-use Rattle.format.specs.Refused.Sheet.{SheetRefusal, frame, long, buffer, sheetOrder}
-use Rattle.format.specs.Refused.Sheet.{SheetReadRefusal, layout, sheetReadOrder}
-use Rattle.format.specs.Refused.Sheet as refusing
-use Rattle.format.specs.Sentences.{Refuses, AcceptedUnless, SheetWritten, SheetTaken}
+use Rattle.format.specs.Refused.Order.{First, FirstAt}
+use Rattle.format.specs.Refused.Plane.{FrameStage, FrameRefusal, frameOrder}
+use Rattle.format.specs.Refused.Sheet.{SheetStage, frame, size, buffer, sheetOrder, SheetRefusal, frame-refused, too-long, lent-short}
+use Rattle.format.specs.Refused.Sheet.{SheetReadRefusal, layout, samples-short, sheetReadOrder}
+use Rattle.format.specs.Sentences.{Refuses, AcceptedUnless, AtSome, SheetWritten, SheetTaken}
 use Rattle.format.specs.declared.Range.{Range}
 use Rattle.format.specs.declared.Summary.{Summary}
 use Rattle.format.proofs.Answers.{refused≢given, refuseIf-given, andThen-given, given-inj, not-refused, go-on, Numbered, refusal}
-use Rattle.format.proofs.Orders.{Decides, gives, decides-less, decides-one, decides-then, decides-as, decides-first, decides-given}
-use Rattle.format.proofs.Orders.{nonzero, not-in, accepted-iff}
-use Rattle.format.proofs.Lists.{in-left, in-last}
+use Rattle.format.proofs.Orders as order
+use Rattle.format.proofs.Orders.{Decides, decides-less, decides-one, nonzero, accepted-iff}
+use Rattle.format.proofs.Stages as staged
+use Rattle.format.proofs.Stages.{DecidesAt, gives, goes, tests, decides-then, decides-map, accepted-at, first-once}
+use Rattle.format.proofs.Lists.{in-left, in-right, in-map}
 use Rattle.format.proofs.Buffers.{over-length, over-all}
-use Rattle.format.proofs.Planes.{frame-decides, frame-in-order, Found, frame-found, plane-length, samples-copied}
+use Rattle.format.proofs.Planes.{frame-decides, frame-staged, frame-stage-once, Found, frame-found, plane-length, samples-copied}
 use Rattle.format.proofs.Sheets.{bytes-of-bits, sheet-length, rule-is, sheet-said, said-sheet, sheet-numbered}
 
 -- ---- lent bytes with an answer in front
@@ -48,49 +49,57 @@ behind-front xs buf n e = drop-at xs (drop (length xs) buf) n e ∙ ap (λ k. dr
 -- ---- writing
 
 module _ (s : List ℕ) (u : Summary) (scene t c z : ℕ) (lent : List ℕ) where
-  abbrev W : ℕ → Type 0
+  abbrev W : SheetStage → ℕ → Type 0
   W = SheetRefusal s u scene t c z lent
 
-  abbrev size : ℕ
-  size = 186 + planeBytes (shapeOf u)
+  abbrev bytes : ℕ
+  bytes = 186 + planeBytes (shapeOf u)
 
-  says-frame : (n : ℕ) → In n frameOrder → W n → FrameRefusal s u scene t c z n
-  says-frame n i (frame f) = f
-  says-frame n i (long h) = absurd (not-in why.sheetLong frameOrder refl i)
-  says-frame n i (buffer h) = absurd (not-in why.buffer frameOrder refl i)
+  says-frame : (a : FrameStage) (n : ℕ) → W (frame a) n → FrameRefusal s u scene t c z a n
+  says-frame a n (frame-refused f) = f
 
-  says-long : W why.sheetLong → mostSheetBytes < size
-  says-long (frame f) = absurd (not-in why.sheetLong frameOrder refl (frame-in-order s u scene t c z why.sheetLong f))
-  says-long (long h) = h
+  size-passes : bytes ≤ mostSheetBytes → (n : ℕ) → W size n → ⊥
+  size-passes h n (too-long l) = omega arith
 
-  says-buffer : W why.buffer → length lent < size
-  says-buffer (frame f) = absurd (not-in why.buffer frameOrder refl (frame-in-order s u scene t c z why.buffer f))
-  says-buffer (buffer h) = h
+  buffer-passes : bytes ≤ length lent → (n : ℕ) → W buffer n → ⊥
+  buffer-passes h n (lent-short l) = omega arith
 
-  sheet-decides : Decides W sheetOrder (sheetFor s u scene t c z (length lent))
+  sheet-decides : DecidesAt W sheetOrder (sheetFor s u scene t c z (length lent))
   unfolding sheetFor
   sheet-decides =
-      decides-then {ns = frameOrder} (frameOf s u scene t c z) _ (decides-as (λ n. frame) says-frame (frame-decides s u scene t c z)) λ r e.
-      decides-less mostSheetBytes size why.sheetLong _ long says-long (decides-less (length lent) size why.buffer _ buffer says-buffer gives)
+      decides-then {front = map frame frameOrder} (frameOf s u scene t c z) _
+      (decides-map frame (λ a n. frame-refused) says-frame (frame-decides s u scene t c z)) λ r e.
+      tests (ltb mostSheetBytes bytes) why.sheetLong _ (λ q. too-long (ltb-true _ _ q)) λ q₁.
+      goes (size-passes (ltb-false _ _ q₁))
+      (tests (ltb (length lent) bytes) why.buffer _ (λ q. lent-short (ltb-true _ _ q)) λ q₂. goes (buffer-passes (ltb-false _ _ q₂)) gives)
 
   by-number : (x : Answer Range) → sheetBy s u c lent x .number ≡ numberOf x
   unfolding sheetBy numberOf
   by-number (refused n) = refl
   by-number (given r) = refl
 
-  -- The number is the first of the refusals in order.
-  pub write-number : First W sheetOrder (sheetCall s u scene t c z lent .number)
+  -- The number is what the first stage that refuses gives.
+  pub write-number : FirstAt W sheetOrder (sheetCall s u scene t c z lent .number)
   unfolding sheetCall
-  write-number = rw (by-number (sheetFor s u scene t c z (length lent))) (decides-first sheet-decides)
+  write-number = rw (by-number (sheetFor s u scene t c z (length lent))) (staged.decides-first sheet-decides)
 
-  in-order : (k : ℕ) → W k → In k sheetOrder
-  in-order k (frame f) = in-left (why.sheetLong ∷ why.buffer ∷ []) (frame-in-order s u scene t c z k f)
-  in-order k (long h) = in-left (why.buffer ∷ []) (in-last why.sheetLong frameOrder)
-  in-order k (buffer h) = in-last why.buffer (frameOrder ++ why.sheetLong ∷ [])
+  once : (a : SheetStage) (n m : ℕ) → W a n → W a m → n ≡ m
+  once a n m (frame-refused {a = b} f) (frame-refused g) = frame-stage-once s u scene t c z b n m f g
+  once a n m (too-long h) (too-long k) = refl
+  once a n m (lent-short h) (lent-short k) = refl
 
-  -- It is 0 exactly when none of them holds.
-  pub write-accepted : AcceptedUnless W (sheetCall s u scene t c z lent .number)
-  write-accepted = accepted-iff (nonzero sheetOrder refl) in-order write-number
+  -- No other number is.
+  pub write-number-only : (n m : ℕ) → FirstAt W sheetOrder n → FirstAt W sheetOrder m → n ≡ m
+  write-number-only n m x y = first-once once x y
+
+  in-stages : (a : SheetStage) (n : ℕ) → W a n → In a sheetOrder × (0 < n)
+  in-stages a n (frame-refused {a = b} f) = let (i, h) = frame-staged s u scene t c z b n f in (in-left (size ∷ buffer ∷ []) (in-map frame i), h)
+  in-stages a n (too-long h) = (in-right (map frame frameOrder) here, lit< tt)
+  in-stages a n (lent-short h) = (in-right (map frame frameOrder) (behind here), lit< tt)
+
+  -- It is 0 exactly when no stage refuses.
+  pub write-accepted : AcceptedUnless (AtSome W) (sheetCall s u scene t c z lent .number)
+  write-accepted = accepted-at in-stages write-number
 
   -- Where it is not 0, the lent bytes are as they were.
   pub write-refused : Refuses (sheetCall s u scene t c z lent .number) → sheetCall s u scene t c z lent .buffer ≡ lent
@@ -105,15 +114,15 @@ module _ (s : List ℕ) (u : Summary) (scene t c z : ℕ) (lent : List ℕ) wher
   pub record Fitting (r : Range) : Type 0 where
     pub framed : frameOf s u scene t c z ≡ given r
     pub found : Found s u scene t c z r
-    pub most : size ≤ mostSheetBytes
-    pub room : size ≤ length lent
+    pub most : bytes ≤ mostSheetBytes
+    pub room : bytes ≤ length lent
 
   pub fitting : (r : Range) → sheetFor s u scene t c z (length lent) ≡ given r → Fitting r
   unfolding sheetFor
   fitting r e =
       let (r′, e₀, e₁) = andThen-given (frameOf s u scene t c z) _ e in
-      let (f₁, e₂) = refuseIf-given (ltb mostSheetBytes size) why.sheetLong _ e₁ in
-      let (f₂, e₃) = refuseIf-given (ltb (length lent) size) why.buffer (given r′) e₂ in
+      let (f₁, e₂) = refuseIf-given (ltb mostSheetBytes bytes) why.sheetLong _ e₁ in
+      let (f₂, e₃) = refuseIf-given (ltb (length lent) bytes) why.buffer (given r′) e₂ in
       let k : r′ ≡ r = given-inj e₃ in
       let e₄ = rw k at e₀ in
       record { framed = e₄; found = frame-found s u scene t c z r e₄; most = ltb-false _ _ f₁; room = ltb-false _ _ f₂ }
@@ -121,7 +130,7 @@ module _ (s : List ℕ) (u : Summary) (scene t c z : ℕ) (lent : List ℕ) wher
   -- a number of 0 comes with a frame
   write-found : sheetCall s u scene t c z lent .number ≡ 0 → (r : Range) × (sheetFor s u scene t c z (length lent) ≡ given r)
   unfolding sheetCall
-  write-found e = decides-given (nonzero sheetOrder refl) sheet-decides (sym (by-number (sheetFor s u scene t c z (length lent))) ∙ e)
+  write-found e = staged.decides-given (λ a n w. in-stages a n w .1) sheet-decides (sym (by-number (sheetFor s u scene t c z (length lent))) ∙ e)
 
   module _ (r : Range) (f : Fitting r) where
     abbrev xs : List ℕ
@@ -133,7 +142,7 @@ module _ (s : List ℕ) (u : Summary) (scene t c z : ℕ) (lent : List ℕ) wher
     long-xs : length xs ≡ planeBytes (shapeOf u)
     long-xs = plane-length s u scene t c z r (f .found)
 
-    long-made : length made ≡ size
+    long-made : length made ≡ bytes
     long-made = sheet-length (u .width) (u .height) (u .bits) xs ∙ ap (λ n. 186 + n) long-xs
 
     sizes : SheetSizes (u .width) (u .height) (u .bits) xs
@@ -163,8 +172,8 @@ module _ (s : List ℕ) (u : Summary) (scene t c z : ℕ) (lent : List ℕ) wher
         record {
           samples = xs;
           plane = (r, f .found .frame-data, rw filled at (samples-copied s u scene t c z r (f .found) (zeros (planeBytes (shapeOf u))) enough));
-          sheet = rw (front made lent size long-made) is-sheet;
-          later = behind-front made lent size long-made;
+          sheet = rw (front made lent bytes long-made) is-sheet;
+          later = behind-front made lent bytes long-made;
           length-kept = over-length made lent (rw long-made (f .room));
         }
 
@@ -183,13 +192,13 @@ module _ (s : List ℕ) (u : Summary) (scene t c z : ℕ) (lent : List ℕ) wher
   -- The plane call on the same arguments is accepted, and the sheet is that of its samples.
   pub plane-written : (samples : List ℕ) → sheetCall s u scene t c z lent .number ≡ 0 → planeBytes (shapeOf u) ≤ length samples
       → (planeCall s u scene t c z samples .number ≡ 0)
-      × (take size (sheetCall s u scene t c z lent .buffer)
+      × (take bytes (sheetCall s u scene t c z lent .buffer)
       ≡ sheet (u .width) (u .height) (u .bits) (take (planeBytes (shapeOf u)) (planeCall s u scene t c z samples .buffer)))
   unfolding sheetCall sheetBy planeCall planeBy
   plane-written samples e h =
       let (r, q) = write-found e in
       let f = fitting r q in
-      let e₁ = front (made r f) lent size (long-made r f) in
+      let e₁ = front (made r f) lent bytes (long-made r f) in
       let e₂ = front (xs r f) samples (planeBytes (shapeOf u)) (long-xs r f) in
       rw (q, plane-framed r samples (f .framed) h, e₁, e₂) (refl, refl)
 
@@ -203,7 +212,7 @@ module _ (s buf : List ℕ) where
   says-layout (layout f) = f
 
   says-short : (q : SheetSaid) → sheetFrom s ≡ given q → T why.buffer → length buf < length (q .samples)
-  says-short q e (refusing.buffer z l) = rw (sym (ap samples-of (given-inj (sym (sheet-said s z) ∙ e)))) l
+  says-short q e (samples-short z l) = rw (sym (ap samples-of (given-inj (sym (sheet-said s z) ∙ e)))) l
     where
       samples-of : SheetSaid → List ℕ
       samples-of q = q .samples
@@ -211,10 +220,10 @@ module _ (s buf : List ℕ) where
   read-decides : Decides T sheetReadOrder (sheetInto s (length buf))
   unfolding sheetInto
   read-decides =
-      decides-then {ns = why.sheetLayout ∷ []} (sheetFrom s) _
+      order.decides-then {ns = why.sheetLayout ∷ []} (sheetFrom s) _
       (decides-one why.sheetLayout _ (sheet-numbered s refl) (λ f. layout λ w h b xs z. f _ (sheet-said s z))
       (λ q e p. says-layout p _ _ _ _ (said-sheet s q e))) λ q e.
-      decides-less (length buf) (length (q .samples)) why.buffer _ (refusing.buffer (said-sheet s q e)) (says-short q e) gives
+      decides-less (length buf) (length (q .samples)) why.buffer _ (samples-short (said-sheet s q e)) (says-short q e) order.gives
 
   read-by-number : (x : Answer SheetSaid) → sheetReadBy buf x .number ≡ numberOf x
   unfolding sheetReadBy numberOf
@@ -224,11 +233,11 @@ module _ (s buf : List ℕ) where
   -- The number is the first of the refusals in order.
   pub read-number : First T sheetReadOrder (sheetReadCall s buf .number)
   unfolding sheetReadCall
-  read-number = rw (read-by-number (sheetInto s (length buf))) (decides-first read-decides)
+  read-number = rw (read-by-number (sheetInto s (length buf))) (order.decides-first read-decides)
 
   read-in-order : (k : ℕ) → T k → In k sheetReadOrder
   read-in-order k (layout f) = here
-  read-in-order k (refusing.buffer z h) = behind here
+  read-in-order k (samples-short z h) = behind here
 
   -- It is 0 exactly when none of them holds.
   pub read-accepted : AcceptedUnless T (sheetReadCall s buf .number)
@@ -273,7 +282,7 @@ module _ (s buf : List ℕ) where
       → SheetTaken s (sheetReadCall s buf .width) (sheetReadCall s buf .height) (sheetReadCall s buf .bits) buf (sheetReadCall s buf .samples)
   unfolding sheetReadCall sheetReadBy
   read-taken e =
-      let (q, f) = decides-given (nonzero sheetReadOrder refl) read-decides (sym (read-by-number (sheetInto s (length buf))) ∙ e) in
+      let (q, f) = order.decides-given (nonzero sheetReadOrder refl) read-decides (sym (read-by-number (sheetInto s (length buf))) ∙ e) in
       rw f (into-taken q f)
 
   -- It is 27 exactly where no rules hold of the sheet.

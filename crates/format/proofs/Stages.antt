@@ -1,17 +1,15 @@
 -- A chain of stages gives the first refusal among them, and 0 where none refuses. Assumes nothing.
 use Prim.Native.Nat.{ℕ, _<_}
-use mathlib.Core.Path.{_≡_, refl}
+use mathlib.Core.Path.{_≡_, refl, sym}
 use mathlib.Core.Logic.{_↔_}
 use mathlib.Core.Bool.{Bool, true, false}
 use mathlib.Core.Option.{Option, none, some}
 use mathlib.Core.List.{List, [], _∷_, _++_, map}
 use native.Mathlib.Omega.{arith}
-use Rattle.format.proofs.Answers.{Numbered, refusal, answer, refused≢given}
-use Rattle.format.proofs.Orders as order
-use Rattle.format.proofs.Orders.{Decides}
+use Rattle.format.proofs.Answers.{Numbered, refusal, answer, refused≢given, refused-inj}
 use Rattle.format.specs.Answer.{Answer, refused, given, refuseIf, andThen, orRefuse, numberOf}
 use Rattle.format.specs.Grammar.Lists.{In, here, behind}
-use Rattle.format.specs.Refused.Order.{First, FirstAt, accepted, passed}
+use Rattle.format.specs.Refused.Order.{FirstAt, accepted, passed}
 use Rattle.format.specs.Refused.Order.{refused as first}
 
 -- `DecidesAt P as x`: x is refused by the first of the stages `as` that refuses, and given where none does
@@ -75,6 +73,20 @@ module _ {S : Type 0} {P : S → ℕ → Type 0} where
   decides-numbered f gives = answer
   decides-numbered f (goes h d) = decides-numbered f d
 
+  -- a refusal comes from a stage
+  pub decides-from : {A : Type 0} {stages : List S} {x : Answer A} {n : ℕ} → DecidesAt P stages x → x ≡ refused n → (a : S) × P a n
+  decides-from {n = n} (stops {a = a} {n = m} h) e = (a, rw (refused-inj e) at h)
+  decides-from gives e = absurd (refused≢given (sym e))
+  decides-from (goes h d) e = decides-from d e
+
+  -- where no number is 0, a call of the number 0 gives its answer
+  pub decides-given : {A : Type 0} {stages : List S} {x : Answer A} → ((a : S) (n : ℕ) → P a n → 0 < n) → DecidesAt P stages x → numberOf x ≡ 0
+      → (y : A) × (x ≡ given y)
+  unfolding numberOf
+  decides-given f (stops {a = a} {n = n} h) e = let l = f a n h in absurd (omega arith)
+  decides-given f (gives {x = y}) e = (y, refl)
+  decides-given f (goes h d) e = decides-given f d e
+
   -- a number that is not 0 comes from a stage
   pub first-from : {stages : List S} {n : ℕ} → FirstAt P stages n → (n ≡ 0 → ⊥) → (a : S) × P a n
   first-from accepted f = absurd (f refl)
@@ -120,15 +132,8 @@ module _ {T : Type 0} {Q : T → ℕ → Type 0} where
   decides-map f p q gives = gives
   decides-map f p q (goes {a = a} h d) = goes (λ n k. h n (q a n k)) (decides-map f p q d)
 
-  -- of a call that has each number once
-  pub decides-staged : {P : ℕ → Type 0} (f : ℕ → T) → ((n : ℕ) → P n → Q (f n) n) → ((n m : ℕ) → Q (f n) m → P n)
-      → {A : Type 0} {ns : List ℕ} {x : Answer A} → Decides P ns x → DecidesAt Q (map f ns) x
-  decides-staged f p q (order.stops {n = n} h) = stops (p n h)
-  decides-staged f p q order.gives = gives
-  decides-staged f p q (order.goes {n = n} h d) = goes (λ m k. h (q n m k)) (decides-staged f p q d)
-
-  pub first-map : {P : ℕ → Type 0} (f : ℕ → T) → ((n : ℕ) → P n → Q (f n) n) → ((n m : ℕ) → Q (f n) m → P n)
-      → {ns : List ℕ} {n : ℕ} → First P ns n → FirstAt Q (map f ns) n
+  pub first-map : {S : Type 0} {P : S → ℕ → Type 0} (f : S → T) → ((a : S) (n : ℕ) → P a n → Q (f a) n) → ((a : S) (n : ℕ) → Q (f a) n → P a n)
+      → {stages : List S} {n : ℕ} → FirstAt P stages n → FirstAt Q (map f stages) n
   first-map f p q accepted = accepted
-  first-map f p q (first {n = n} h) = first (p n h)
-  first-map f p q (passed {n = n} h r) = passed (λ m k. h (q n m k)) (first-map f p q r)
+  first-map f p q (first {a = a} {n = n} h) = first (p a n h)
+  first-map f p q (passed {a = a} h r) = passed (λ n k. h n (q a n k)) (first-map f p q r)

@@ -53,17 +53,26 @@ levelOf n name kids =
 
 -- ---- chunks
 
+-- a chunk, the name that the map has for it, and the lengths that its header states
 pub record NamedChunk : Type 0 where
+  pub listed : List ℕ
   pub name : List ℕ
   pub content : List ℕ
+  pub name-length : ℕ
+  pub data-length : ℕ
+
+-- one that the map has under another name than its own
+abbrev pub astray : String → String → List ℕ → NamedChunk
+unfolding ascii
+astray listed name d =
+    record { listed = ascii listed; name = ascii name; content = d; name-length = length (ascii name); data-length = length d }
 
 abbrev pub chunk : String → List ℕ → NamedChunk
-unfolding ascii
-chunk name d = record { name = ascii name; content = d }
+chunk name d = astray name name d
 
 abbrev pub chunkBytes : NamedChunk → List ℕ
 unfolding leBytes
-chunkBytes c = leBytes 4 chunkMark ++ leBytes 4 (length (c .name)) ++ leBytes 8 (length (c .content)) ++ c .name ++ c .content
+chunkBytes c = leBytes 4 chunkMark ++ leBytes 4 (c .name-length) ++ leBytes 8 (c .data-length) ++ c .name ++ c .content
 
 abbrev pub chunksBytes : List NamedChunk → List ℕ
 chunksBytes [] = []
@@ -73,11 +82,13 @@ chunksBytes (c ∷ cs) = chunkBytes c ++ chunksBytes cs
 abbrev pub mapBytes : ℕ → List NamedChunk → List ℕ
 unfolding leBytes endMark
 mapBytes at [] = endMark
-mapBytes at (c ∷ cs) = c .name ++ leBytes 8 at ++ leBytes 8 (length (c .content)) ++ mapBytes (at + length (chunkBytes c)) cs
+mapBytes at (c ∷ cs) = c .listed ++ leBytes 8 at ++ leBytes 8 (length (c .content)) ++ mapBytes (at + length (chunkBytes c)) cs
 
 -- these chunks, the map's chunk and the locator
 abbrev pub fileOf : List NamedChunk → List ℕ
 unfolding leBytes endMark mapName
 fileOf cs =
     let body = chunksBytes cs in
-    body ++ chunkBytes (record { name = mapName; content = mapBytes 0 cs }) ++ endMark ++ leBytes 8 (length body)
+    let map = mapBytes 0 cs in
+    body ++ chunkBytes (record { listed = []; name = mapName; content = map; name-length = length mapName; data-length = length map }) ++ endMark
+    ++ leBytes 8 (length body)

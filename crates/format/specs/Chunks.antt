@@ -12,17 +12,17 @@ use Rattle.format.specs.declared.Range.{Range}
 abbrev pub chunkMark : ℕ
 chunkMark = 0x0ABECEDA
 
--- The data of the chunk whose header begins at `at`; its name has to begin with `name`, which is empty but for the map chunk. "4 in order:
--- header leaves the file, mark, name leaves the file, map name not beginning .., data leaves the file."
-unfoldable pub chunkData : List ℕ → List ℕ → ℕ → Answer Range
+-- The data of the chunk whose header begins at `at`. Its name has to begin with `name`, and `misnamed` is the refusal where it does not: 4 for the map chunk,
+-- and 29 for one that the map has under that name. It stands between "name leaves the file" and "data leaves the file".
+unfoldable pub chunkData : ℕ → List ℕ → List ℕ → ℕ → Answer Range
 unfolding leAt part begins refuseIf
-chunkData name s at =
+chunkData misnamed name s at =
     let nameLen = leAt 4 s (at + 4) in
     let dataLen = leAt 8 s (at + 8) in
     refuseIf (ltb (length s) (at + 16)) why.chunk
     (refuseIf (not (eqb (leAt 4 s at) chunkMark)) why.chunk
     (refuseIf (ltb (length s) (at + 16 + nameLen)) why.chunk
-    (refuseIf (not (begins name (part s (at + 16) nameLen))) why.chunk
+    (refuseIf (not (begins name (part s (at + 16) nameLen))) misnamed
     (refuseIf (ltb (length s) (at + 16 + nameLen + dataLen)) why.chunk
     (given (record { start = at + 16 + nameLen; len = dataLen }))))))
 

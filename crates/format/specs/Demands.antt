@@ -27,7 +27,7 @@ use Rattle.format.specs.Refused.Channels.{ChannelsRefusal, channelsOrder
 use Rattle.format.specs.Refused.Open.{TooMany, OpenRefusal, openOrder}
 use Rattle.format.specs.Refused.Border.{BorderRefusal, borderOrder, BorderFirst}
 use Rattle.format.specs.Refused.Register.{RegisterRefusal, registerOrder, Registered}
-use Rattle.format.specs.Sentences.{Refuses, AcceptedUnless, OpensExactly, Different, PlaneCopied, TreeEntered}
+use Rattle.format.specs.Sentences.{Refuses, AcceptedUnless, AtSome, OpensExactly, Different, PlaneCopied, TreeEntered}
 use Rattle.format.specs.declared.Range.{Range}
 use Rattle.format.specs.declared.Axis.{Axis}
 use Rattle.format.specs.declared.Loop.{Loop}
@@ -46,11 +46,15 @@ pub record FirstDemand : Type 0 where
   pub open-table-full : (file table : List ℕ) → openCall file table .number ≡ why.table
       → (name : List ℕ) × TreeRead name × TooMany file name (roomIn (length table))
   pub plane-number : (file : List ℕ) (u : Summary) (scene t c z : ℕ) (samples : List ℕ)
-      → First (PlaneRefusal file u scene t c z samples) planeOrder (planeCall file u scene t c z samples .number)
+      → FirstAt (PlaneRefusal file u scene t c z samples) planeOrder (planeCall file u scene t c z samples .number)
+  pub plane-number-only : (file : List ℕ) (u : Summary) (scene t c z : ℕ) (samples : List ℕ) (n m : ℕ)
+      → FirstAt (PlaneRefusal file u scene t c z samples) planeOrder n → FirstAt (PlaneRefusal file u scene t c z samples) planeOrder m → n ≡ m
   pub plane-refused : (file : List ℕ) (u : Summary) (scene t c z : ℕ) (samples : List ℕ)
       → Refuses (planeCall file u scene t c z samples .number) → planeCall file u scene t c z samples .buffer ≡ samples
   pub tree-number : (file : List ℕ) (u : Summary) (name table : List ℕ)
-      → First (TreeRefusal file u name (roomIn (length table))) treeOrder (treeCall file u name table .number)
+      → FirstAt (TreeRefusal file u name (roomIn (length table))) treeOrder (treeCall file u name table .number)
+  pub tree-number-only : (file : List ℕ) (u : Summary) (name : List ℕ) (room n m : ℕ)
+      → FirstAt (TreeRefusal file u name room) treeOrder n → FirstAt (TreeRefusal file u name room) treeOrder m → n ≡ m
   pub tree-refused : (file : List ℕ) (u : Summary) (name table : List ℕ)
       → Refuses (treeCall file u name table .number) → treeCall file u name table .buffer ≡ zeros (length table)
   -- "One entry per record read, in file order; the rest zero."
@@ -98,7 +102,7 @@ pub record ThirdDemand : Type 0 where
       → seqIndex (loopsOf u) scene t z < frames (loopsOf u)
   -- "With the summary returned a plane is accepted exactly when none of the refusals that document 01 lists for that call holds": for any summary
   pub plane-accepted : (file : List ℕ) (u : Summary) (scene t c z : ℕ) (samples : List ℕ)
-      → AcceptedUnless (PlaneRefusal file u scene t c z samples) (planeCall file u scene t c z samples .number)
+      → AcceptedUnless (AtSome (PlaneRefusal file u scene t c z samples)) (planeCall file u scene t c z samples .number)
   -- and of these 20 never holds of a summary that an opening returned
   pub opened-sound : (file table : List ℕ) → openCall file table .number ≡ 0 → Sound file (openCall file table .summary)
   -- "A file opens exactly when document 01's grammar, written without the reader, joins its bytes to a summary and the table has entries enough for the trees

@@ -32,7 +32,7 @@ mapRange s =
     (refuseIf (not (eqb (leAt 4 s 0) chunkMark)) why.foreign
     (refuseIf (ltb n 40) why.tail
     (refuseIf (not (same (part s (n - 40) 32) endMark)) why.tail
-    (chunkData mapName s (leAt 8 s (n - 8)))))))
+    (chunkData why.chunk mapName s (leAt 8 s (n - 8)))))))
 
 -- ---- the entries
 
@@ -95,6 +95,6 @@ unfolding orElse
 offsetOf m name [] = none
 offsetOf m name (e ∷ es) = orElse (offsetOf m name es) (cond (same (part m (e .nameAt) (e .nameLen)) name) (some (e .offset)) none)
 
--- the chunk that the map m has under a name: 11, 4
+-- the chunk that the map m has under a name, which it has to bear itself: 11, 4, 29, 4
 unfoldable pub namedChunk : List ℕ → List ℕ → List MapEntry → List ℕ → Answer Range
-namedChunk s m es name = andThen (orRefuse (offsetOf m name es) why.missing) (chunkData [] s)
+namedChunk s m es name = andThen (orRefuse (offsetOf m name es) why.missing) (chunkData why.chunkName name s)

@@ -112,3 +112,7 @@ sheetLayout = 27
 -- size range: a pixel size of more than 2^64 − 1 picometres, or infinite (change request 5)
 abbrev pub sizeRange : ℕ
 sizeRange = 28
+
+-- chunk name: a chunk that the map has under a name with which its own does not begin (change request 6)
+abbrev pub chunkName : ℕ
+chunkName = 29

@@ -3,6 +3,7 @@
 -- holds to the grammar's rules.
 pub mod Order
 pub mod Summary
+pub mod Chunk
 pub mod Plane
 pub mod Sheet
 pub mod Tree

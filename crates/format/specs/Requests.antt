@@ -4,19 +4,22 @@ use mathlib.Core.Path.{_≡_}
 use mathlib.Core.Bool.{Bool, false}
 use mathlib.Core.Logic.{_↔_}
 use mathlib.Core.Option.{none, some}
-use mathlib.Core.List.{List, [], _∷_}
+use mathlib.Core.List.{List, [], _∷_, _++_}
 use lib.ListN.{length, getD, take}
 use lib.IntN.{ℤ, pos, negsuc, negℤ}
 use lib.Ieee.{Float, fin, binary64, up, down, ofBits}
-use Rattle.format.specs.Answer.{refused}
-use Rattle.format.specs.Bytes.{same, ascii, zeros}
+use Rattle.format.specs.Answer.{refused, numberOf}
+use Rattle.format.specs.Bytes.{leAt, part, same, ascii, zeros}
+use Rattle.format.specs.Chunks.{chunkMark, chunkData}
+use Rattle.format.specs.Map.{endMark, mapName}
 use Rattle.format.specs.Text.{lossy}
 use Rattle.format.specs.Refusals as why
 use Rattle.format.specs.Values.{Value, flag, whole, double, level}
 use Rattle.format.specs.Numbers.{oneIf, unsigned, signed, below32, float}
 use Rattle.format.specs.Trees.{roomIn}
 use Rattle.format.specs.Attributes.{attributes, planeBytes}
-use Rattle.format.specs.Summary.{shapeOf}
+use Rattle.format.specs.Frames.{seqIndex}
+use Rattle.format.specs.Summary.{shapeOf, loopsOf}
 use Rattle.format.specs.Sheets.{sheet}
 use Rattle.format.specs.Calibration.{aboveZero}
 use Rattle.format.specs.Picometres.{picometres}
@@ -25,7 +28,12 @@ use Rattle.format.specs.Calls.Open.{openCall}
 use Rattle.format.specs.Calls.Plane.{planeCall}
 use Rattle.format.specs.Calls.Sheet.{sheetCall, sheetReadCall}
 use Rattle.format.specs.Calls.Picometres.{picometresCall}
+use Rattle.format.specs.Calls.Tree.{treeCall}
+use Rattle.format.specs.Calls.Channels.{channelsCall}
+use Rattle.format.specs.Calls.Register.{registerCall}
 use Rattle.format.specs.Grammar.Lists.{All}
+use Rattle.format.specs.Grammar.Chunks.{Begins, Chunk}
+use Rattle.format.specs.Grammar.Frames.{FrameName}
 use Rattle.format.specs.Grammar.Sheets.{SheetSizes, SheetOf}
 use Rattle.format.specs.Grammar.Trees.{Tree}
 use Rattle.format.specs.Grammar.Values.{ValueOf, Field}
@@ -37,13 +45,17 @@ use Rattle.format.specs.Grammar.Channels.{Colored, Covers}
 use Rattle.format.specs.Grammar.Picometres.{distance, Rounds, Positive, Endless, AboveZero, InPicometres}
 use Rattle.format.specs.Grammar.Comparison.{NamesTell, Looked}
 use Rattle.format.specs.Refused.Order.{First, FirstAt}
+use Rattle.format.specs.Refused.Chunk.{chunkOrder, ChunkRefusal}
+use Rattle.format.specs.Refused.Plane.{FrameEntry}
 use Rattle.format.specs.Refused.Sheet.{SheetRefusal, sheetOrder, SheetReadRefusal, sheetReadOrder}
 use Rattle.format.specs.Refused.Picometres.{PicometresRefusal, picometresOrder, SizeIs}
 use Rattle.format.specs.Sentences.{Refuses, AcceptedUnless, AtSome, SheetWritten, PlaneOn, SheetTaken, TurnedAway, ZeroSizes}
 use Rattle.format.specs.Sentences.{SizeField, WholeNeeded, WholeTyped, SizeTold}
+use Rattle.format.specs.Sentences.{Misnamed, FrameNamed, TreeNamed, NeededNamed, CalibrationNamed, ChannelsNamed}
 use Rattle.format.specs.declared.Range.{Range}
 use Rattle.format.specs.declared.Entry.{Entry}
 use Rattle.format.specs.declared.Attributes.{Attributes}
+use Rattle.format.specs.declared.Channel.{Channel}
 use Rattle.format.specs.declared.Summary.{Summary}
 
 -- Change request 2, "Planes as TIFF sheets".
@@ -54,9 +66,11 @@ pub record Sheets : Type 0 where
       → (w ≡ w′) × ((h ≡ h′) × ((b ≡ b′) × (xs ≡ xs′)))
   -- writing
   pub write-number : (file : List ℕ) (u : Summary) (scene t c z : ℕ) (lent : List ℕ)
-      → First (SheetRefusal file u scene t c z lent) sheetOrder (sheetCall file u scene t c z lent .number)
+      → FirstAt (SheetRefusal file u scene t c z lent) sheetOrder (sheetCall file u scene t c z lent .number)
+  pub write-number-only : (file : List ℕ) (u : Summary) (scene t c z : ℕ) (lent : List ℕ) (n m : ℕ)
+      → FirstAt (SheetRefusal file u scene t c z lent) sheetOrder n → FirstAt (SheetRefusal file u scene t c z lent) sheetOrder m → n ≡ m
   pub write-accepted : (file : List ℕ) (u : Summary) (scene t c z : ℕ) (lent : List ℕ)
-      → AcceptedUnless (SheetRefusal file u scene t c z lent) (sheetCall file u scene t c z lent .number)
+      → AcceptedUnless (AtSome (SheetRefusal file u scene t c z lent)) (sheetCall file u scene t c z lent .number)
   pub write-refused : (file : List ℕ) (u : Summary) (scene t c z : ℕ) (lent : List ℕ)
       → Refuses (sheetCall file u scene t c z lent .number) → sheetCall file u scene t c z lent .buffer ≡ lent
   pub written : (file : List ℕ) (u : Summary) (scene t c z : ℕ) (lent : List ℕ)
@@ -197,3 +211,34 @@ pub record Picometres : Type 0 where
   -- beside an opening with a table as long
   pub opened-size : (file table : List ℕ) → openCall file table .number ≡ 0
       → SizeTold file (openCall file table .summary) (picometresCall file (openCall file table .summary) table)
+
+-- ---- change request 6, "A chunk must bear its own name"
+
+pub record ChunkNames : Type 0 where
+  -- a chunk's name begins with the name of one frame alone
+  pub one-frame : (n m : ℕ) (a b name : List ℕ) → FrameName n a → FrameName m b → Begins a name → Begins b name → n ≡ m
+  -- so no two points have their planes from one chunk: where both are accepted and the map has both frames at one offset, it is one point
+  pub never-neighbour : (file : List ℕ) (u : Summary) (scene t c z scene′ t′ c′ z′ : ℕ) (samples samples′ : List ℕ)
+      → planeCall file u scene t c z samples .number ≡ 0 → planeCall file u scene′ t′ c′ z′ samples′ .number ≡ 0
+      → (o : ℕ) → FrameEntry file u (seqIndex (loopsOf u) scene t z) o → FrameEntry file u (seqIndex (loopsOf u) scene′ t′ z′) o
+      → (scene ≡ scene′) × (t ≡ t′) × (z ≡ z′)
+  -- in a chunk the order is 4, 29, 4; a longer name passes; the map chunk's own wrong name is 4
+  pub chunk-number : (name s : List ℕ) (o : ℕ) → FirstAt (ChunkRefusal name s o) chunkOrder (numberOf (chunkData why.chunkName name s o))
+  pub longer-passes : (name more s : List ℕ) (o : ℕ) (r : Range) → Chunk (name ++ more) s o r → Chunk name s o r
+  pub map-name-4 : (file table : List ℕ) → leAt 4 file 0 ≡ chunkMark → 40 ≤ length file → part file (length file - 40) 32 ≡ endMark
+      → Misnamed mapName file (leAt 8 file (length file - 8)) → openCall file table .number ≡ why.chunk
+  -- 29 is said exactly where the map leads from a name astray
+  pub plane-named : (file : List ℕ) (u : Summary) (scene t c z : ℕ) (samples : List ℕ)
+      → FrameNamed file u scene t c z (planeCall file u scene t c z samples .number)
+  pub sheet-named : (file : List ℕ) (u : Summary) (scene t c z : ℕ) (lent : List ℕ)
+      → FrameNamed file u scene t c z (sheetCall file u scene t c z lent .number)
+  pub tree-named : (file : List ℕ) (u : Summary) (name table : List ℕ) → TreeNamed file u name (treeCall file u name table .number)
+  pub picometres-named : (file : List ℕ) (u : Summary) (table : List ℕ)
+      → TreeNamed file u (ascii "ImageCalibrationLV|0!") (picometresCall file u table .number)
+  pub open-named : (file table : List ℕ) → NeededNamed file (openCall file table .number)
+  -- there a calibration is not stated, and channel records are empty; channels and register never say 29
+  pub calibration-missing : (file table : List ℕ) → openCall file table .number ≡ 0 → CalibrationNamed file (openCall file table .summary)
+  pub channels-missing : (file : List ℕ) (u : Summary) (table : List ℕ) (row : List Channel)
+      → ChannelsNamed file u (length row) (channelsCall file u table row .row)
+  pub channels-never : (file : List ℕ) (u : Summary) (table : List ℕ) (row : List Channel) → channelsCall file u table row .number ≡ why.chunkName → ⊥
+  pub register-never : (file : List ℕ) (u : Summary) (buf : List ℕ) → registerCall file u buf .number ≡ why.chunkName → ⊥

@@ -1,5 +1,5 @@
 -- Sentences that the demands and the calls' own contracts are made of, each under a name.
-use Prim.Native.Nat.{ℕ, suc, _+_, _^_, _≤_}
+use Prim.Native.Nat.{ℕ, suc, _+_, _^_, _≤_, _<_}
 use mathlib.Core.Path.{_≡_}
 use mathlib.Core.Logic.{_↔_}
 use mathlib.Core.Option.{none, some}
@@ -8,6 +8,7 @@ use lib.ListN.{length, take, drop}
 use lib.Ieee.{Float}
 use Rattle.format.specs.Bytes.{zeros, ascii}
 use Rattle.format.specs.Chunks.{dataIn}
+use Rattle.format.specs.Map.{MapEntry}
 use Rattle.format.specs.Values.{Value, double, level}
 use Rattle.format.specs.Numbers.{float, narrow}
 use Rattle.format.specs.Calibration.{aboveZero}
@@ -19,20 +20,25 @@ use Rattle.format.specs.Refusals as why
 use Rattle.format.specs.Sheets.{sheet}
 use Rattle.format.specs.Calls.Plane.{planeCall}
 use Rattle.format.specs.Calls.Picometres.{SizeOutcome}
+use Rattle.format.specs.Grammar.Chunks.{Begins, Headed, ownName}
+use Rattle.format.specs.Grammar.Map.{Listed, Mapped}
 use Rattle.format.specs.Grammar.Sheets.{SheetOf}
 use Rattle.format.specs.Grammar.Trees.{Tree}
 use Rattle.format.specs.Grammar.Values.{Field}
 use Rattle.format.specs.Grammar.Numbers.{NotUnsigned, NotSigned}
 use Rattle.format.specs.Grammar.File.{Joined}
 use Rattle.format.specs.Grammar.Table.{Enough}
-use Rattle.format.specs.Refused.Open.{attributes, needed, TreeAt, TooMany, SizesAt, ExperimentAt}
-use Rattle.format.specs.Refused.Plane.{Within, FrameData, PlaneRefusal, Copied}
-use Rattle.format.specs.Refused.Tree.{NameData, Tabled}
+use Rattle.format.specs.Refused.Open.{Needed, attributes, needed, TreeAt, TooMany, SizesAt, ExperimentAt}
+use Rattle.format.specs.Refused.Plane.{Within, FrameEntry, FrameData, PlaneRefusal, Copied}
+use Rattle.format.specs.Refused.Channels.{Emptied}
+use Rattle.format.specs.Refused.Summary.{Sound, Uncalibrated}
+use Rattle.format.specs.Refused.Tree.{NameEntry, NameData, Tabled}
 use Rattle.format.specs.Refused.Picometres.{SizeAt}
 use Rattle.format.specs.declared.Range.{Range}
 use Rattle.format.specs.declared.Entry.{Entry}
 use Rattle.format.specs.declared.Loop.{Loop}
 use Rattle.format.specs.declared.Attributes.{Attributes}
+use Rattle.format.specs.declared.Channel.{Channel}
 use Rattle.format.specs.declared.Summary.{Summary}
 
 -- ---- refused and accepted
@@ -115,7 +121,7 @@ TreeEntered file u name n after =
 -- of the plane holds
 abbrev pub ReadsExactly : List ℕ → ℕ → ℕ → ℕ → ℕ → ℕ → List ℕ → ℕ → Type 0
 ReadsExactly file room scene t c z samples n =
-    (n ≡ 0) ↔ ((u : Summary) × Joined file u × Enough file room × None (PlaneRefusal file u scene t c z samples))
+    (n ≡ 0) ↔ ((u : Summary) × Joined file u × Enough file room × None (AtSome (PlaneRefusal file u scene t c z samples)))
 
 -- ---- change request 4, "No more fractions as whole numbers"
 
@@ -164,3 +170,50 @@ pub data SizeTold (file : List ℕ) (u : Summary) (said : SizeOutcome) : Type 0 
   stated : {x : Float} → StatedSize file u x → said .number ≡ 0 → picometres x ≡ some (said .picometres) → SizeTold file u said
   over : {x : Float} → StatedSize file u x → said .number ≡ why.sizeRange → picometres x ≡ none → SizeTold file u said
   unstated : (u .calibration ≡ 1 → ⊥) → Refuses (said .number) → (said .number ≡ why.sizeRange → ⊥) → SizeTold file u said
+
+-- ---- change request 6, "A chunk must bear its own name"
+
+-- the chunk at o has header and name in the file, and that name does not begin with `name`
+pub record Misnamed (name file : List ℕ) (o : ℕ) : Type 0 where
+  pub headed : Headed file o
+  pub another : Begins name (ownName file o) → ⊥
+
+-- the summary's map leads from a name to such a chunk
+abbrev pub NameAstray : List ℕ → Summary → List ℕ → Type 0
+NameAstray file u name = (o : ℕ) × NameEntry file u name o × Misnamed name file o
+
+-- and so does the file's own map
+abbrev pub EntryAstray : List ℕ → List ℕ → Type 0
+EntryAstray file name = (r : Range) × (es : List MapEntry) × (o : ℕ) × Mapped file r es × Listed (dataIn file r) name es o × Misnamed name file o
+
+-- the map leads from the name of a point's frame to such a chunk, and the point and the summary are fit for a plane
+pub record FrameAstray (file : List ℕ) (u : Summary) (scene t c z : ℕ) : Type 0 where
+  pub sound : Sound file u
+  pub in-range : Within (loopsOf u) scene t z
+  pub component : c < u .components
+  pub ceiling-kept : planeBytes (shapeOf u) ≤ 4_294_967_296
+  pub offset : ℕ
+  pub entry : FrameEntry file u (seqIndex (loopsOf u) scene t z) offset
+  pub misnamed : Misnamed (entry .name) file offset
+
+-- a call for a point's frame, and one for a tree, whose number is n: 29 exactly there
+abbrev pub FrameNamed : List ℕ → Summary → ℕ → ℕ → ℕ → ℕ → ℕ → Type 0
+FrameNamed file u scene t c z n = (n ≡ why.chunkName) ↔ FrameAstray file u scene t c z
+
+abbrev pub TreeNamed : List ℕ → Summary → List ℕ → ℕ → Type 0
+TreeNamed file u name n = (n ≡ why.chunkName) ↔ (Sound file u × NameAstray file u name)
+
+-- An opening whose number is n: it is refused where the map leads from a needed name astray, with 29 where that is the attributes', and it says 29 nowhere
+-- else.
+pub record NeededNamed (file : List ℕ) (n : ℕ) : Type 0 where
+  pub not-opened : (w : Needed) → EntryAstray file (needed w) → Refuses n
+  pub attributes-29 : EntryAstray file (needed attributes) → n ≡ why.chunkName
+  pub no-other : n ≡ why.chunkName → (w : Needed) × EntryAstray file (needed w)
+
+-- the summary states nothing of the calibration where the map leads from its name astray
+abbrev pub CalibrationNamed : List ℕ → Summary → Type 0
+CalibrationNamed file u = EntryAstray file (ascii "ImageCalibrationLV|0!") → Uncalibrated u
+
+-- a row of n channel records is empty where the map leads from the channels' name astray
+abbrev pub ChannelsNamed : List ℕ → Summary → ℕ → List Channel → Type 0
+ChannelsNamed file u n out = NameAstray file u (ascii "ImageMetadataSeqLV|0!") → Emptied n out

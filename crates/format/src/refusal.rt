@@ -55,3 +55,5 @@ pub const SHEET_LONG: u32 = 26;
 pub const SHEET_LAYOUT: u32 = 27;
 
 pub const SIZE_RANGE: u32 = 28;
+
+pub const CHUNK_NAME: u32 = 29;

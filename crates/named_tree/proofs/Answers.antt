@@ -2,11 +2,12 @@
 use Prim.Native.Nat.{ℕ, _+_, _^_, _≤_, _<_}
 use mathlib.Core.Path.{_≡_, refl, sym, ap, _∙_}
 use mathlib.Core.Option.{Option, none, some}
-use mathlib.Core.List.{List, []}
+use mathlib.Core.List.{List}
 use lib.ListN.{length}
 use Rattle.format.proofs.Reading.{whole-read}
 use Rattle.format.specs.Answer.{Answer, given, refused, andThen, orRefuse}
 use Rattle.format.specs.Bytes.{part, zeros}
+use Rattle.format.specs.Refusals as why
 use Rattle.format.specs.Chunks.{chunkData, dataIn}
 use Rattle.format.specs.Map.{MapEntry, mapEntries, offsetOf, namedChunk}
 use Rattle.format.specs.Trees.{read, treeIn, within, treeEntries, roomIn, namedTree}
@@ -29,25 +30,25 @@ refused-reads e f g = rw f (record { answer = e; table = rw e g; holds = tt })
 
 -- ---- the chunk at an offset
 
-module _ (s : List ℕ) (o n : ℕ) where
-  pub no-chunk : {x : ℕ} → refused x ≡ chunkData [] s o → treeAt s (roomIn n) o ≡ refused x
+module _ (s name : List ℕ) (o n : ℕ) where
+  pub no-chunk : {x : ℕ} → refused x ≡ chunkData why.chunkName name s o → treeAt s (roomIn n) name o ≡ refused x
   unfolding treeAt andThen
   no-chunk e = rw (← e)
 
-  chunk-tree : (r : Range) → given r ≡ chunkData [] s o → treeAt s (roomIn n) o ≡ treeInto (dataIn s r) (r .start) n
+  chunk-tree : (r : Range) → given r ≡ chunkData why.chunkName name s o → treeAt s (roomIn n) name o ≡ treeInto (dataIn s r) (r .start) n
   unfolding treeAt andThen treeIn
   chunk-tree r e = rw (← e)
 
   -- what the tree's answer says, and what its table has
-  pub chunk-reads : {r : Range} {d t : List ℕ} {p : Parsed} → length s < 2 ^ 64 → r .start + r .len ≤ length s → given r ≡ chunkData [] s o → d ≡ part s (r .start) (r .len)
-      → parsedIn t p ≡ treeInto d (r .start) n → t ≡ treeBy n (treeInto d (r .start) n) .buffer → Reads s t n (treeAt s (roomIn n) o) p
+  pub chunk-reads : {r : Range} {d t : List ℕ} {p : Parsed} → length s < 2 ^ 64 → r .start + r .len ≤ length s → given r ≡ chunkData why.chunkName name s o → d ≡ part s (r .start) (r .len)
+      → parsedIn t p ≡ treeInto d (r .start) n → t ≡ treeBy n (treeInto d (r .start) n) .buffer → Reads s t n (treeAt s (roomIn n) name o) p
   unfolding treeBy
   chunk-reads {r} {d} {t} {p} small within e q a b =
-      let z : treeInto d (r .start) n ≡ treeAt s (roomIn n) o = ap (λ (x : List ℕ). treeInto x (r .start) n) q ∙ sym (chunk-tree r e) in
-      let b′ : t ≡ treeBy n (treeAt s (roomIn n) o) .buffer = b ∙ ap (λ (x : Answer (List Entry)). treeBy n x .buffer) z in
+      let z : treeInto d (r .start) n ≡ treeAt s (roomIn n) name o = ap (λ (x : List ℕ). treeInto x (r .start) n) q ∙ sym (chunk-tree r e) in
+      let b′ : t ≡ treeBy n (treeAt s (roomIn n) name o) .buffer = b ∙ ap (λ (x : Answer (List Entry)). treeBy n x .buffer) z in
       record { answer = sym z ∙ sym a; table = b′; holds = go p (a ∙ z) b′ }
     where
-      go : (p : Parsed) → parsedIn t p ≡ treeAt s (roomIn n) o → t ≡ treeBy n (treeAt s (roomIn n) o) .buffer → Readable s t p
+      go : (p : Parsed) → parsedIn t p ≡ treeAt s (roomIn n) name o → t ≡ treeBy n (treeAt s (roomIn n) name o) .buffer → Readable s t p
       go (Refused x) f g = tt
       go (Entries w) f g =
           let es = entriesIn t w in
@@ -57,32 +58,32 @@ module _ (s : List ℕ) (o n : ℕ) where
 
 -- ---- what a lookup found
 
-module _ (s : List ℕ) (room : ℕ) where
-  pub under-at : (o : ℕ) → treeUnder s room (given (some o)) ≡ treeAt s room o
+module _ (s : List ℕ) (room : ℕ) (name : List ℕ) where
+  pub under-at : (o : ℕ) → treeUnder s room name (given (some o)) ≡ treeAt s room name o
   unfolding treeUnder andThen orRefuse
   under-at o = refl
 
-  pub under-absent : treeUnder s room (given none) ≡ refused 11
+  pub under-absent : treeUnder s room name (given none) ≡ refused 11
   unfolding treeUnder andThen orRefuse
   under-absent = refl
 
-  pub under-refused : (x : ℕ) → treeUnder s room (refused x) ≡ refused x
+  pub under-refused : (x : ℕ) → treeUnder s room name (refused x) ≡ refused x
   unfolding treeUnder andThen
   under-refused x = refl
 
-  pub under-listed : (m name : List ℕ) (es : List MapEntry) → treeUnder s room (given (offsetOf m name es)) ≡ namedTree s m es room name
+  pub under-listed : (m : List ℕ) (es : List MapEntry) → treeUnder s room name (given (offsetOf m name es)) ≡ namedTree s m es room name
   unfolding treeUnder andThen orRefuse namedTree namedChunk treeAt
-  under-listed m name es = go (offsetOf m name es)
+  under-listed m es = go (offsetOf m name es)
     where
-      go : (o : Option ℕ) → treeUnder s room (given o) ≡ andThen (andThen (orRefuse o 11) (chunkData [] s)) λ r. treeEntries (within room (treeIn s r))
+      go : (o : Option ℕ) → treeUnder s room name (given o) ≡ andThen (andThen (orRefuse o 11) (chunkData why.chunkName name s)) λ r. treeEntries (within room (treeIn s r))
       go none = refl
       go (some o) = refl
 
   -- the map's refusal, or the tree under the name
-  pub under-named : (m name : List ℕ) → treeUnder s room (findIn m name) ≡ andThen (mapEntries m) λ es. namedTree s m es room name
+  pub under-named : (m : List ℕ) → treeUnder s room name (findIn m name) ≡ andThen (mapEntries m) λ es. namedTree s m es room name
   unfolding findIn andThen
-  under-named m name = go (mapEntries m)
+  under-named m = go (mapEntries m)
     where
-      go : (a : Answer (List MapEntry)) → treeUnder s room (andThen a λ es. given (offsetOf m name es)) ≡ andThen a λ es. namedTree s m es room name
+      go : (a : Answer (List MapEntry)) → treeUnder s room name (andThen a λ es. given (offsetOf m name es)) ≡ andThen a λ es. namedTree s m es room name
       go (refused x) = under-refused x
-      go (given es) = under-listed m name es
+      go (given es) = under-listed m es

@@ -12,13 +12,14 @@ ghost use Rattle.format.specs.Trees.{roomIn};
 ghost use Rattle.chunk.specs.Answers.{lookupOf};
 ghost use Rattle.named_tree.specs.Named.{treeAt, treeUnder, Reads};
 
-// The tree of the chunk at `offset`, in the table, which is all zero where that is refused.
-pub fn read_at(file: &[u8], offset: u64, table: &mut [u8]) -> Parsed
+// The tree of the chunk at `offset`, which has to bear the name, in the table, which is all zero where that is refused.
+pub fn read_at(file: &[u8], name: &[u8], offset: u64, table: &mut [u8]) -> Parsed
     ensures { λ r. ⌜ Reads (now (file .entry)) (now (table .exit)) (length (now (table .entry)))
-        (treeAt (now (file .entry)) (roomIn (length (now (table .entry)))) offset) r ⌝ }
+        (treeAt (now (file .entry)) (roomIn (length (now (table .entry)))) (now (name .entry)) offset) r ⌝ }
 {
-    match chunk_data(file, offset, b"") {
+    match chunk_data(file, offset, name) {
         ChunkData::Bad => refuse(table, refusal::CHUNK),
+        ChunkData::Misnamed => refuse(table, refusal::CHUNK_NAME),
         ChunkData::Data(r) => {
             let start = r.start;
             let len = r.len;
@@ -27,13 +28,13 @@ pub fn read_at(file: &[u8], offset: u64, table: &mut [u8]) -> Parsed
     }
 }
 
-// The tree of the chunk that a lookup found; a table of zeros where there is none.
-pub fn read_named(file: &[u8], at: Lookup, table: &mut [u8]) -> Parsed
+// The tree of the chunk that a lookup found under a name; a table of zeros where there is none.
+pub fn read_named(file: &[u8], name: &[u8], at: Lookup, table: &mut [u8]) -> Parsed
     ensures { λ r. ⌜ Reads (now (file .entry)) (now (table .exit)) (length (now (table .entry)))
-        (treeUnder (now (file .entry)) (roomIn (length (now (table .entry)))) (lookupOf at)) r ⌝ }
+        (treeUnder (now (file .entry)) (roomIn (length (now (table .entry)))) (now (name .entry)) (lookupOf at)) r ⌝ }
 {
     match at {
-        Lookup::At(offset) => read_at(file, offset, table),
+        Lookup::At(offset) => read_at(file, name, offset, table),
         Lookup::Absent => refuse(table, refusal::MISSING),
         Lookup::Broken => refuse(table, refusal::MAP),
     }

@@ -21,12 +21,11 @@ use Rattle.format.specs.declared.Entry.{Entry}
 use Rattle.format.specs.declared.Attributes.{Attributes}
 use Rattle.format.specs.declared.Loop.{Loop}
 use Rattle.format.specs.declared.Summary.{Summary}
-use Rattle.format.proofs.Answers.{go-on}
+use Rattle.format.proofs.Answers.{go-on, stops}
 use Rattle.chunk.specs.Answers.{findIn}
 use Rattle.named_tree.specs.Named.{treeUnder}
 use Rattle.named_tree.proofs.Answers.{under-listed}
 use Rattle.open.specs.Parts.{runIn, afterRun, afterAttributes, afterMap}
-use Rattle.open.proofs.Saying.{stops}
 
 -- ---- steps in a row
 
@@ -66,12 +65,12 @@ module _ (s : List ℕ) (room : ℕ) (r : Range) (map : List MapEntry) where
       → refuseIf (ltb most64 (planeBytes a)) why.frameShape (andThen (calibration s (dataIn s r) map room (zFloat (zStep mostDepth s es i))) λ c. given (summaryOf r a ls c))
       ≡ afterRun s room r (at (ascii "ImageCalibrationLV|0!")) a (record { loops = ls; step = zStep mostDepth s es i })
   unfolding afterRun calibration
-  after-run a es i ls = rw (under-listed s room (dataIn s r) (ascii "ImageCalibrationLV|0!") map) refl
+  after-run a es i ls = rw (under-listed s room (ascii "ImageCalibrationLV|0!") (dataIn s r) map) refl
 
   after-attributes : (a : Attributes) → listedAfter a ≡ afterAttributes s room r (at (ascii "ImageMetadataLV!")) (at (ascii "ImageCalibrationLV|0!")) a
   unfolding afterAttributes runIn
   after-attributes a =
-      rw (under-listed s room (dataIn s r) (ascii "ImageMetadataLV!") map)
+      rw (under-listed s room (ascii "ImageMetadataLV!") (dataIn s r) map)
       (then-same (namedTree s (dataIn s r) map room (ascii "ImageMetadataLV!")) _ _ λ es.
       let o = orRefuse (asLevel (field s es 0 (ascii "SLxExperiment"))) why.missing in
       then-same o _ _ (λ i.
@@ -82,7 +81,7 @@ module _ (s : List ℕ) (room : ℕ) (r : Range) (map : List MapEntry) where
   after-map : listed ≡ afterMap s room r (at (ascii "ImageAttributesLV!")) (at (ascii "ImageMetadataLV!")) (at (ascii "ImageCalibrationLV|0!"))
   unfolding afterMap
   after-map =
-      rw (under-listed s room (dataIn s r) (ascii "ImageAttributesLV!") map)
+      rw (under-listed s room (ascii "ImageAttributesLV!") (dataIn s r) map)
       (then-same (namedTree s (dataIn s r) map room (ascii "ImageAttributesLV!")) _ _
       (λ ts. then-same (attributes s ts) _ _ after-attributes)
       ∙ sym (then-then (namedTree s (dataIn s r) map room (ascii "ImageAttributesLV!")) _ _))

@@ -21,14 +21,14 @@ use Rattle.format.specs.declared.Entry.{Entry}
 use Rattle.format.specs.declared.Attributes.{Attributes}
 use Rattle.format.specs.declared.Calibration.{Calibration}
 use Rattle.format.specs.declared.Loop.{Loop}
-use Rattle.format.proofs.Answers.{go-on}
+use Rattle.format.proofs.Answers.{go-on, stops}
 use Rattle.number.specs.Readings.{real}
 use Rattle.experiment.specs.Kept as kept
 use Rattle.named_tree.specs.Named.{treeUnder}
 use Rattle.open.specs.Parts.{Says, Run, Tells, accepted, turned, runIn, afterRun}
 use Rattle.open.specs.declared.Opened.{Opened}
 use Rattle.open.specs.declared.Recorded.{Recorded}
-use Rattle.open.proofs.Saying.{stops, says-as}
+use Rattle.open.proofs.Saying.{says-as}
 
 -- ---- the experiment in a tree
 
@@ -73,12 +73,12 @@ module _ (s : List ℕ) (room : ℕ) (m : Range) (c : Answer (Option ℕ)) (a : 
     plane-refused f p = let (y, o) = ran e x t z in says-as (rw (o .answer, f)) p
 
     module _ (f : ltb most64 (planeBytes a) ≡ false) where
-      pub calibration-refused : (n : ℕ) → refused n ≡ calibrationBy s (zFloat (real (e .z))) (treeUnder s room c)
+      pub calibration-refused : (n : ℕ) → refused n ≡ calibrationBy s (zFloat (real (e .z))) (treeUnder s room (ascii "ImageCalibrationLV|0!") c)
           → Says r (refused n) → Says r (andThen x (afterRun s room m c a))
       unfolding afterRun andThen refuseIf
       calibration-refused n q p = let (y, o) = ran e x t z in says-as (rw (o .answer, f, ← o .step, ← q)) p
 
-      pub calibrated : (k : Calibration) → given k ≡ calibrationBy s (zFloat (real (e .z))) (treeUnder s room c)
+      pub calibrated : (k : Calibration) → given k ≡ calibrationBy s (zFloat (real (e .z))) (treeUnder s room (ascii "ImageCalibrationLV|0!") c)
           → ((ls : List Loop) → e .loops ≡ inThree ls → e .depth ≡ length ls → Says r (given (summaryOf m a ls k)))
           → Says r (andThen x (afterRun s room m c a))
       unfolding afterRun andThen refuseIf

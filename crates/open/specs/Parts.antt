@@ -62,16 +62,17 @@ runIn s es =
 
 -- After the experiment: plane product 14, calibration. The map has c under the calibration's name.
 unfoldable pub afterRun : List ℕ → ℕ → Range → Answer (Option ℕ) → Attributes → Run → Answer Summary
+unfolding ascii
 afterRun s room m c a x =
     refuseIf (ltb most64 (planeBytes a)) why.frameShape
-    (andThen (calibrationBy s (zFloat (x .step)) (treeUnder s room c)) λ k. given (summaryOf m a (x .loops) k))
+    (andThen (calibrationBy s (zFloat (x .step)) (treeUnder s room (ascii "ImageCalibrationLV|0!") c)) λ k. given (summaryOf m a (x .loops) k))
 
 -- After the attributes: the experiment. The map has b under its name.
 unfoldable pub afterAttributes : List ℕ → ℕ → Range → Answer (Option ℕ) → Answer (Option ℕ) → Attributes → Answer Summary
-unfolding runIn afterRun
-afterAttributes s room m b c a = andThen (treeUnder s room b) λ es. andThen (runIn s es) (afterRun s room m c a)
+unfolding ascii runIn afterRun
+afterAttributes s room m b c a = andThen (treeUnder s room (ascii "ImageMetadataLV!") b) λ es. andThen (runIn s es) (afterRun s room m c a)
 
 -- After the map: the attributes. The map has a under their name.
 unfoldable pub afterMap : List ℕ → ℕ → Range → Answer (Option ℕ) → Answer (Option ℕ) → Answer (Option ℕ) → Answer Summary
-unfolding afterAttributes
-afterMap s room m a b c = andThen (andThen (treeUnder s room a) (attributes s)) (afterAttributes s room m b c)
+unfolding ascii afterAttributes
+afterMap s room m a b c = andThen (andThen (treeUnder s room (ascii "ImageAttributesLV!") a) (attributes s)) (afterAttributes s room m b c)

@@ -32,7 +32,7 @@ ghost use Prim.Native.Nat.{ℕ};
 ghost use lib.ListN.{length};
 ghost use lib.Ieee.{Float};
 ghost use Rattle.format.specs.Answer.{Answer, given, refused, andThen};
-ghost use Rattle.format.specs.Bytes.{zeros};
+ghost use Rattle.format.specs.Bytes.{ascii, zeros};
 ghost use Rattle.format.specs.Trees.{roomIn};
 ghost use Rattle.format.specs.Attributes.{attributes};
 ghost use Rattle.format.specs.Calibration.{zFloat, calibrationBy};
@@ -42,7 +42,7 @@ ghost use Rattle.format.specs.Grammar.File.{Joined};
 ghost use Rattle.format.specs.Refused.Order.{FirstAt};
 ghost use Rattle.format.specs.Refused.Open.{OpenRefusal, openOrder};
 ghost use Rattle.format.specs.Refused.Summary.{Sound, Blank};
-ghost use Rattle.format.specs.Sentences.{Refuses, OpensExactly, Different, WholeNeeded, WholeTyped};
+ghost use Rattle.format.specs.Sentences.{Refuses, OpensExactly, Different, WholeNeeded, WholeTyped, NeededNamed, CalibrationNamed};
 ghost use Rattle.format.specs.declared.Loop.{Loop};
 ghost use Rattle.attributes.specs.Parsed.{answer};
 ghost use Rattle.chunk.specs.Answers.{lookupOf};
@@ -156,9 +156,10 @@ fn unrecorded(number: u32) -> Recorded
 // The attributes in the tree of a chunk that the map has.
 fn read_attributes(file: &[u8], at: Lookup, table: &mut [u8]) -> Sizes
     ensures { λ r. ⌜ answer r
-        ≡ andThen (treeUnder (now (file .entry)) (roomIn (length (now (table .entry)))) (lookupOf at)) (attributes (now (file .entry))) ⌝ }
+        ≡ andThen (treeUnder (now (file .entry)) (roomIn (length (now (table .entry)))) (ascii "ImageAttributesLV!") (lookupOf at))
+        (attributes (now (file .entry))) ⌝ }
 {
-    match read_named(file, at, table) {
+    match read_named(file, b"ImageAttributesLV!", at, table) {
         Parsed::Refused(n) => Sizes::Refused(n),
         Parsed::Entries(used) => parse_attributes(file, table, used),
     }
@@ -198,9 +199,9 @@ fn uncalibrated(n: u32) -> Calibrated
 // The calibration in the tree of a chunk that the map has.
 fn read_calibration(file: &[u8], at: Lookup, table: &mut [u8], z: Real) -> Calibrated
     ensures { λ r. ⌜ calibrationOf r ≡ calibrationBy (now (file .entry)) (zFloat (real z))
-        (treeUnder (now (file .entry)) (roomIn (length (now (table .entry)))) (lookupOf at)) ⌝ }
+        (treeUnder (now (file .entry)) (roomIn (length (now (table .entry)))) (ascii "ImageCalibrationLV|0!") (lookupOf at)) ⌝ }
 {
-    match read_named(file, at, table) {
+    match read_named(file, b"ImageCalibrationLV|0!", at, table) {
         Parsed::Refused(n) => uncalibrated(n),
         Parsed::Entries(used) => Calibrated::Is(load_calibration(file, table, used, z)),
     }
@@ -244,7 +245,7 @@ fn after_attributes(
 ) -> Opened
     ensures { λ r. ⌜ Says r (afterAttributes (now (file .entry)) (roomIn (length (now (table .entry)))) map (lookupOf b) (lookupOf c) a) ⌝ }
 {
-    match read_named(file, b, table) {
+    match read_named(file, b"ImageMetadataLV!", b, table) {
         Parsed::Refused(n) => refused(n),
         Parsed::Entries(used) => {
             let e = recorded_in(file, table, used);
@@ -299,6 +300,8 @@ pub fn open(file: &[u8], table: &mut [u8]) -> Opened
     ensures different { λ r. ⌜ (r .number ≡ 0 → Different (loopsOf (r .summary))) ⌝ }
     ensures whole { λ r. ⌜ WholeNeeded (now (file .entry)) (roomIn (length (now (table .entry)))) (r .number) ⌝ }
     ensures typed { λ r. ⌜ (r .number ≡ 0 → WholeTyped (now (file .entry)) (r .summary)) ⌝ }
+    ensures named { λ r. ⌜ NeededNamed (now (file .entry)) (r .number) ⌝ }
+    ensures calibrated { λ r. ⌜ (r .number ≡ 0 → CalibrationNamed (now (file .entry)) (r .summary)) ⌝ }
 {
     let opened = read_file(file, table);
     clear(table);

@@ -10,13 +10,13 @@ use tree::Parsed;
 use tree_call::tree_named;
 ghost use mathlib.Core.Path.{_≡_};
 ghost use lib.ListN.{length};
-ghost use Rattle.format.specs.Bytes.{zeros};
+ghost use Rattle.format.specs.Bytes.{ascii, zeros};
 ghost use Rattle.format.specs.Answer.{refused};
 ghost use Rattle.format.specs.Trees.{roomIn};
 ghost use Rattle.format.specs.Calls.Picometres.{picometresIn, picometresOf, picometresCall};
 ghost use Rattle.format.specs.Refused.Order.{FirstAt};
 ghost use Rattle.format.specs.Refused.Picometres.{PicometresRefusal, picometresOrder, SizeIs};
-ghost use Rattle.format.specs.Sentences.{Refuses, AcceptedUnless, AtSome};
+ghost use Rattle.format.specs.Sentences.{Refuses, AcceptedUnless, AtSome, TreeNamed};
 ghost use Rattle.lookup.specs.Table.{entriesIn, Holds};
 ghost use Rattle.picometres.specs.Says.{Says};
 
@@ -76,6 +76,7 @@ pub fn picometres(file: &[u8], u: Summary, table: &mut [u8]) -> Size
     ensures accepted { λ r. ⌜ AcceptedUnless (AtSome (PicometresRefusal (now (file .entry)) u (roomIn (length (now (table .entry)))))) (r .number) ⌝ }
     ensures zero { λ r. ⌜ (Refuses (r .number) → r .picometres ≡ 0) ⌝ }
     ensures rounded { λ r. ⌜ (r .number ≡ 0 → SizeIs (now (file .entry)) u (r .picometres)) ⌝ }
+    ensures named { λ r. ⌜ TreeNamed (now (file .entry)) u (ascii "ImageCalibrationLV|0!") (r .number) ⌝ }
 {
     let said = read_size(file, u, table);
     clear(table);

@@ -3,7 +3,7 @@ use Prim.Native.Nat.{ℕ}
 use mathlib.Core.Path.{_≡_, refl, sym}
 use mathlib.Core.Bool.{true, false}
 use mathlib.Core.Option.{none, some}
-use mathlib.Core.List.{List, []}
+use mathlib.Core.List.{List}
 use lib.Dec.{ltb}
 use Rattle.format.specs.Answer.{Answer, given, refused, refuseIf, andThen, orRefuse}
 use Rattle.format.specs.Refusals as why
@@ -20,17 +20,17 @@ use Rattle.plane.specs.Found.{foundAt}
 
 -- ---- the chunk at an offset
 
-module _ (s : List ℕ) (u : Summary) (o : ℕ) where
-  pub no-chunk : refused why.chunk ≡ chunkData [] s o → refused why.chunk ≡ foundAt s u o
+module _ (s : List ℕ) (u : Summary) (name : List ℕ) (o : ℕ) where
+  pub no-chunk : {n : ℕ} → refused n ≡ chunkData why.chunkName name s o → refused n ≡ foundAt s u name o
   unfolding foundAt andThen
   no-chunk q = rw (sym q) refl
 
-  module _ (r : Range) (q : given r ≡ chunkData [] s o) where
-    pub short : badFrame u (r .len) ≡ true → refused why.frameShort ≡ foundAt s u o
+  module _ (r : Range) (q : given r ≡ chunkData why.chunkName name s o) where
+    pub short : badFrame u (r .len) ≡ true → refused why.frameShort ≡ foundAt s u name o
     unfolding foundAt andThen refuseIf
     short e = rw (sym q, e) refl
 
-    pub found : badFrame u (r .len) ≡ false → given r ≡ foundAt s u o
+    pub found : badFrame u (r .len) ≡ false → given r ≡ foundAt s u name o
     unfolding foundAt andThen refuseIf
     found e = rw (sym q, e) refl
 
@@ -56,14 +56,14 @@ module _ (s : List ℕ) (u : Summary) (scene t c z : ℕ) where
         name = frameName (seqIndex (loopsOf u) scene t z)
 
         -- what the map has for the frame, and the chunk there
-        looked : andThen (findIn (mapOf s u) name) (λ x. andThen (orRefuse x why.noFrame) (foundAt s u)) ≡ frameOf s u scene t c z
+        looked : andThen (findIn (mapOf s u) name) (λ x. andThen (orRefuse x why.noFrame) (foundAt s u name)) ≡ frameOf s u scene t c z
         unfolding frameOf findIn foundAt andThen refuseIf
         looked = rw (q₁, q₂, q₃) (by-map (mapEntries (mapOf s u)))
           where
             by-map : (x : Answer (List MapEntry))
-                → andThen (andThen x λ es. given (offsetOf (mapOf s u) name es)) (λ x. andThen (orRefuse x why.noFrame) (foundAt s u))
+                → andThen (andThen x λ es. given (offsetOf (mapOf s u) name es)) (λ x. andThen (orRefuse x why.noFrame) (foundAt s u name))
                 ≡ andThen x λ es. andThen (orRefuse (offsetOf (mapOf s u) name es) why.noFrame) λ o.
-                andThen (chunkData [] s o) λ r. refuseIf (badFrame u (r .len)) why.frameShort (given r)
+                andThen (chunkData why.chunkName name s o) λ r. refuseIf (badFrame u (r .len)) why.frameShort (given r)
             by-map (refused n) = refl
             by-map (given es) = refl
 
@@ -75,7 +75,7 @@ module _ (s : List ℕ) (u : Summary) (scene t c z : ℕ) where
         unfolding andThen orRefuse
         no-frame q = rw (sym q) at looked
 
-        pub at-offset : (o : ℕ) → given (some o) ≡ findIn (mapOf s u) name → foundAt s u o ≡ frameOf s u scene t c z
+        pub at-offset : (o : ℕ) → given (some o) ≡ findIn (mapOf s u) name → foundAt s u name o ≡ frameOf s u scene t c z
         unfolding andThen orRefuse
         at-offset o q = rw (sym q) at looked
 

@@ -10,12 +10,13 @@ use Rattle.format.specs.Answer.{given, refused}
 use Rattle.format.specs.Attributes.{planeBytes}
 use Rattle.format.specs.Summary.{shapeOf}
 use Rattle.format.specs.Calls.Plane.{frameFor, planeSamples, planeBy, planeCall}
-use Rattle.format.specs.Sentences.{Refuses, AcceptedUnless, PlaneCopied}
-use Rattle.format.specs.Refused.Order.{First}
-use Rattle.format.specs.Refused.Plane.{PlaneRefusal, planeOrder}
+use Rattle.format.specs.Sentences.{Refuses, AcceptedUnless, AtSome, PlaneCopied, FrameNamed}
+use Rattle.format.specs.Refused.Order.{FirstAt}
+use Rattle.format.specs.Refused.Plane.{PlaneStage, PlaneRefusal, planeOrder}
 use Rattle.format.specs.declared.Range.{Range}
 use Rattle.format.specs.declared.Summary.{Summary}
 use Rattle.format.proofs.Planes.{Found, ready, plane-number, plane-accepted, plane-sample, plane-refused}
+use Rattle.format.proofs.ChunkNames.{plane-named}
 use Rattle.plane.specs.Found.{Fit}
 
 -- what a frame that was found has; sheets cite it too
@@ -28,14 +29,14 @@ module _ {s : List ℕ} {u : Summary} {scene t c z : ℕ} {r : Range} (f : Found
       record { bits = f .sound .bits; shape = f .sound .shape; component = f .component; whole = rw mul-comm (f .frame-long .rows); enough = enough }
 
 module _ (s : List ℕ) (u : Summary) (scene t c z : ℕ) (buf : List ℕ) where
-  abbrev R : ℕ → Type 0
+  abbrev R : PlaneStage → ℕ → Type 0
   R = PlaneRefusal s u scene t c z buf
 
   -- the call's number and buffer, and the sentences that follow
   abbrev pub Promised : ℕ → List ℕ → Type 0
   Promised n out =
-      (n ≡ planeCall s u scene t c z buf .number) × ((out ≡ planeCall s u scene t c z buf .buffer) × (First R planeOrder n × (AcceptedUnless R n
-      × ((n ≡ 0 → PlaneCopied s u scene t c z buf out) × (Refuses n → out ≡ buf)))))
+      (n ≡ planeCall s u scene t c z buf .number) × ((out ≡ planeCall s u scene t c z buf .buffer) × (FirstAt R planeOrder n × (AcceptedUnless (AtSome R) n
+      × ((n ≡ 0 → PlaneCopied s u scene t c z buf out) × ((Refuses n → out ≡ buf) × FrameNamed s u scene t c z n)))))
 
   promised : {n : ℕ} {out : List ℕ} → n ≡ planeCall s u scene t c z buf .number → out ≡ planeCall s u scene t c z buf .buffer → Promised n out
   promised e f = (
@@ -46,7 +47,10 @@ module _ (s : List ℕ) (u : Summary) (scene t c z : ℕ) (buf : List ℕ) where
         rw e (plane-number s u scene t c z buf),
         (
           rw e (plane-accepted s u scene t c z buf),
-          (λ q. rw f (plane-sample s u scene t c z buf (sym e ∙ q)), λ g. f ∙ plane-refused s u scene t c z buf (λ q. g (e ∙ q))),
+          (
+            λ q. rw f (plane-sample s u scene t c z buf (sym e ∙ q)),
+            (λ g. f ∙ plane-refused s u scene t c z buf (λ q. g (e ∙ q)), rw e (plane-named s u scene t c z buf)),
+          ),
         ),
       ),
     ),

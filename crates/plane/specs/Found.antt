@@ -1,6 +1,6 @@
 -- What each answer of this crate stands for, and the samples in a frame's rows.
 use Prim.Native.Nat.{ℕ, _*_, _≤_, _<_}
-use mathlib.Core.List.{List, []}
+use mathlib.Core.List.{List}
 use Rattle.format.specs.Answer.{Answer, given, refused, refuseIf, andThen}
 use Rattle.format.specs.Refusals as why
 use Rattle.format.specs.Chunks.{chunkData}
@@ -19,9 +19,9 @@ abbrev pub frameAnswer : Frame → Answer Range
 frameAnswer (Data r) = given r
 frameAnswer (Refused n) = refused n
 
--- the frame whose chunk is at the offset o: 4, 24
-unfoldable pub foundAt : List ℕ → Summary → ℕ → Answer Range
-foundAt s u o = andThen (chunkData [] s o) λ r. refuseIf (badFrame u (r .len)) why.frameShort (given r)
+-- the frame whose chunk is at the offset o, where it has to bear the name: 4, 29, 4, 24
+unfoldable pub foundAt : List ℕ → Summary → List ℕ → ℕ → Answer Range
+foundAt s u name o = andThen (chunkData why.chunkName name s o) λ r. refuseIf (badFrame u (r .len)) why.frameShort (given r)
 
 -- the samples of component c in the rows of a frame
 abbrev pub planeIn : Summary → ℕ → List ℕ → List ℕ

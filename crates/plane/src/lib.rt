@@ -1,9 +1,9 @@
 // One plane of a file: the frame of a point is found, and one component's samples are copied out of it.
 use attributes::product_over;
 use chunk::ChunkData;
-use chunk::chunk_data;
 use chunk::data_of;
 use chunk::frame::frame_at;
+use chunk::frame::frame_chunk;
 use chunk::map::Lookup;
 use component::copy_samples;
 use format::Range;
@@ -13,10 +13,11 @@ use summary::bad_index;
 use summary::bad_summary;
 use summary::seq_index;
 ghost use mathlib.Core.Path.{_≡_};
+ghost use Rattle.format.specs.Frames.{frameName};
 ghost use Rattle.format.specs.Calls.Plane.{badFrame, frameOf, frameFor, planeCall};
-ghost use Rattle.format.specs.Refused.Order.{First};
+ghost use Rattle.format.specs.Refused.Order.{FirstAt};
 ghost use Rattle.format.specs.Refused.Plane.{PlaneRefusal, planeOrder};
-ghost use Rattle.format.specs.Sentences.{Refuses, AcceptedUnless, PlaneCopied};
+ghost use Rattle.format.specs.Sentences.{Refuses, AcceptedUnless, AtSome, PlaneCopied, FrameNamed};
 ghost use Rattle.plane.specs.Found.{frameAnswer, foundAt};
 
 pub mod copy; // rows of bytes
@@ -44,12 +45,13 @@ fn bad_frame(u: Summary, len: u64) -> bool
     product_over(u.stride, u.height, 1, len - 8)
 }
 
-// The data of the chunk at `offset`, where it is a whole frame.
-fn frame_data(file: &[u8], u: Summary, offset: u64) -> Frame
-    ensures { λ r. ⌜ frameAnswer r ≡ foundAt (now (file .entry)) u offset ⌝ }
+// The data of the chunk at `offset`, where it bears the name of frame n and is a whole frame.
+fn frame_data(file: &[u8], u: Summary, n: u64, offset: u64) -> Frame
+    ensures { λ r. ⌜ frameAnswer r ≡ foundAt (now (file .entry)) u (frameName n) offset ⌝ }
 {
-    match chunk_data(file, offset, b"") {
+    match frame_chunk(file, offset, n) {
         ChunkData::Bad => Frame::Refused(refusal::CHUNK),
+        ChunkData::Misnamed => Frame::Refused(refusal::CHUNK_NAME),
         ChunkData::Data(r) => {
             if bad_frame(u, r.len) {
                 return Frame::Refused(refusal::FRAME_SHORT);
@@ -73,8 +75,9 @@ pub fn frame_of(file: &[u8], u: Summary, scene: u64, t: u64, c: u64, z: u64) -> 
         return Frame::Refused(refusal::CEILING);
     }
     let map = data_of(file, u.map.start, u.map.len);
-    match frame_at(map, seq_index(u, scene, t, z)) {
-        Lookup::At(o) => frame_data(file, u, o),
+    let n = seq_index(u, scene, t, z);
+    match frame_at(map, n) {
+        Lookup::At(o) => frame_data(file, u, n, o),
         Lookup::Absent => Frame::Refused(refusal::NO_FRAME),
         Lookup::Broken => Frame::Refused(refusal::MAP),
     }
@@ -99,10 +102,11 @@ fn frame_for(file: &[u8], u: Summary, scene: u64, t: u64, c: u64, z: u64, room: 
 pub fn plane(file: &[u8], u: Summary, scene: u64, t: u64, c: u64, z: u64, samples: &mut [u8]) -> u32
     ensures number { λ r. ⌜ r ≡ planeCall (now (file .entry)) u scene t c z (now (samples .entry)) .number ⌝ }
     ensures buffer { λ _. ⌜ now (samples .exit) ≡ planeCall (now (file .entry)) u scene t c z (now (samples .entry)) .buffer ⌝ }
-    ensures first { λ r. ⌜ First (PlaneRefusal (now (file .entry)) u scene t c z (now (samples .entry))) planeOrder r ⌝ }
-    ensures accepted { λ r. ⌜ AcceptedUnless (PlaneRefusal (now (file .entry)) u scene t c z (now (samples .entry))) r ⌝ }
+    ensures first { λ r. ⌜ FirstAt (PlaneRefusal (now (file .entry)) u scene t c z (now (samples .entry))) planeOrder r ⌝ }
+    ensures accepted { λ r. ⌜ AcceptedUnless (AtSome (PlaneRefusal (now (file .entry)) u scene t c z (now (samples .entry)))) r ⌝ }
     ensures copied { λ r. ⌜ (r ≡ 0 → PlaneCopied (now (file .entry)) u scene t c z (now (samples .entry)) (now (samples .exit))) ⌝ }
     ensures untouched { λ r. ⌜ (Refuses r → now (samples .exit) ≡ now (samples .entry)) ⌝ }
+    ensures named { λ r. ⌜ FrameNamed (now (file .entry)) u scene t c z r ⌝ }
 {
     match frame_for(file, u, scene, t, c, z, samples.len()) {
         Frame::Refused(n) => n,

@@ -11,12 +11,12 @@ use Rattle.format.specs.Answer.{given, refused}
 use Rattle.format.specs.Sheets.{sheetHead, sheet}
 use Rattle.format.specs.Calls.Plane.{planeSamples}
 use Rattle.format.specs.Calls.Sheet.{sheetFor, sheetBy, sheetCall}
-use Rattle.format.specs.Refused.Order.{First}
-use Rattle.format.specs.Refused.Sheet.{SheetRefusal, sheetOrder}
-use Rattle.format.specs.Sentences.{Refuses, AcceptedUnless, SheetWritten, PlaneOn}
+use Rattle.format.specs.Refused.Order.{FirstAt}
+use Rattle.format.specs.Refused.Sheet.{SheetStage, SheetRefusal, sheetOrder}
+use Rattle.format.specs.Sentences.{Refuses, AcceptedUnless, AtSome, SheetWritten, PlaneOn, FrameNamed}
 use Rattle.format.specs.declared.Range.{Range}
 use Rattle.format.specs.declared.Summary.{Summary}
-use Rattle.format.proofs.Requests.{sheets}
+use Rattle.format.proofs.Requests.{sheets, chunk-names}
 use Rattle.format.proofs.SheetCalls.{Fitting, fitting}
 use Rattle.plane.specs.Found.{Fit}
 use Rattle.plane.proofs.Promises.{found-inside, found-fit}
@@ -25,14 +25,15 @@ use Rattle.sheet.specs.Fits.{Fits}
 -- ---- written
 
 module _ (s : List ℕ) (u : Summary) (scene t c z : ℕ) (lent : List ℕ) where
-  abbrev W : ℕ → Type 0
+  abbrev W : SheetStage → ℕ → Type 0
   W = SheetRefusal s u scene t c z lent
 
   -- the call's number and buffer, and the sentences that follow
   abbrev pub Promised : ℕ → List ℕ → Type 0
   Promised n out =
-      (n ≡ sheetCall s u scene t c z lent .number) × ((out ≡ sheetCall s u scene t c z lent .buffer) × (First W sheetOrder n × (AcceptedUnless W n
-      × ((n ≡ 0 → SheetWritten s u scene t c z lent out) × ((n ≡ 0 → PlaneOn s u scene t c z out) × (Refuses n → out ≡ lent))))))
+      (n ≡ sheetCall s u scene t c z lent .number) × ((out ≡ sheetCall s u scene t c z lent .buffer) × (FirstAt W sheetOrder n × (AcceptedUnless (AtSome W) n
+      × ((n ≡ 0 → SheetWritten s u scene t c z lent out) × ((n ≡ 0 → PlaneOn s u scene t c z out)
+      × ((Refuses n → out ≡ lent) × FrameNamed s u scene t c z n))))))
 
   promised : {n : ℕ} {out : List ℕ} → n ≡ sheetCall s u scene t c z lent .number → out ≡ sheetCall s u scene t c z lent .buffer → Promised n out
   promised e f = (
@@ -47,7 +48,7 @@ module _ (s : List ℕ) (u : Summary) (scene t c z : ℕ) (lent : List ℕ) wher
             λ q. rw f (sheets .written s u scene t c z lent (sym e ∙ q)),
             (
               λ q samples room. rw f (sheets .plane-written s u scene t c z lent (sym e ∙ q) samples room),
-              λ g. f ∙ sheets .write-refused s u scene t c z lent (λ q. g (e ∙ q)),
+              (λ g. f ∙ sheets .write-refused s u scene t c z lent (λ q. g (e ∙ q)), rw e (chunk-names .sheet-named s u scene t c z lent)),
             ),
           ),
         ),

@@ -19,9 +19,9 @@ ghost use lib.ListN.{length};
 ghost use lib.Dec.{ltb};
 ghost use Rattle.format.specs.Sheets.{sheetBytes};
 ghost use Rattle.format.specs.Calls.Sheet.{sheetFor, sheetCall, laidAs, sheetReadCall};
-ghost use Rattle.format.specs.Refused.Order.{First};
+ghost use Rattle.format.specs.Refused.Order.{First, FirstAt};
 ghost use Rattle.format.specs.Refused.Sheet.{SheetRefusal, sheetOrder, SheetReadRefusal, sheetReadOrder};
-ghost use Rattle.format.specs.Sentences.{Refuses, AcceptedUnless, SheetWritten, PlaneOn, SheetTaken, TurnedAway, ZeroSizes};
+ghost use Rattle.format.specs.Sentences.{Refuses, AcceptedUnless, AtSome, SheetWritten, PlaneOn, SheetTaken, TurnedAway, ZeroSizes, FrameNamed};
 ghost use Rattle.plane.specs.Found.{frameAnswer};
 
 mod head; // what stands before the strip
@@ -76,11 +76,12 @@ fn sheet_for(file: &[u8], u: Summary, scene: u64, t: u64, c: u64, z: u64, room: 
 pub fn sheet(file: &[u8], u: Summary, scene: u64, t: u64, c: u64, z: u64, lent: &mut [u8]) -> u32
     ensures number { λ r. ⌜ r ≡ sheetCall (now (file .entry)) u scene t c z (now (lent .entry)) .number ⌝ }
     ensures buffer { λ _. ⌜ now (lent .exit) ≡ sheetCall (now (file .entry)) u scene t c z (now (lent .entry)) .buffer ⌝ }
-    ensures first { λ r. ⌜ First (SheetRefusal (now (file .entry)) u scene t c z (now (lent .entry))) sheetOrder r ⌝ }
-    ensures accepted { λ r. ⌜ AcceptedUnless (SheetRefusal (now (file .entry)) u scene t c z (now (lent .entry))) r ⌝ }
+    ensures first { λ r. ⌜ FirstAt (SheetRefusal (now (file .entry)) u scene t c z (now (lent .entry))) sheetOrder r ⌝ }
+    ensures accepted { λ r. ⌜ AcceptedUnless (AtSome (SheetRefusal (now (file .entry)) u scene t c z (now (lent .entry)))) r ⌝ }
     ensures written { λ r. ⌜ (r ≡ 0 → SheetWritten (now (file .entry)) u scene t c z (now (lent .entry)) (now (lent .exit))) ⌝ }
     ensures plane { λ r. ⌜ (r ≡ 0 → PlaneOn (now (file .entry)) u scene t c z (now (lent .exit))) ⌝ }
     ensures untouched { λ r. ⌜ (Refuses r → now (lent .exit) ≡ now (lent .entry)) ⌝ }
+    ensures named { λ r. ⌜ FrameNamed (now (file .entry)) u scene t c z r ⌝ }
 {
     match sheet_for(file, u, scene, t, c, z, lent.len()) {
         Frame::Refused(n) => n,

@@ -10,12 +10,13 @@ use Rattle.format.specs.Refusals as why
 use Rattle.format.specs.Trees.{roomIn, tableBytes}
 use Rattle.format.specs.Summary.{mapOf, badSummary}
 use Rattle.format.specs.Calls.Tree.{treeNamed, treeBy, treeCall}
-use Rattle.format.specs.Sentences.{Refuses, AcceptedUnless, TreeEntered}
-use Rattle.format.specs.Refused.Order.{First}
-use Rattle.format.specs.Refused.Tree.{TreeRefusal, treeOrder}
+use Rattle.format.specs.Sentences.{Refuses, AcceptedUnless, AtSome, TreeEntered, TreeNamed}
+use Rattle.format.specs.Refused.Order.{FirstAt}
+use Rattle.format.specs.Refused.Tree.{TreeStage, TreeRefusal, treeOrder}
 use Rattle.format.specs.declared.Entry.{Entry}
 use Rattle.format.specs.declared.Summary.{Summary}
 use Rattle.format.proofs.TreeCalls.{tree-number, tree-accepted, tree-table, tree-refused}
+use Rattle.format.proofs.ChunkNames.{tree-named}
 use Rattle.chunk.specs.Answers.{findIn}
 use Rattle.named_tree.specs.Named.{treeUnder}
 use Rattle.named_tree.proofs.Answers.{under-named}
@@ -28,21 +29,21 @@ module _ (s : List ℕ) (u : Summary) (name : List ℕ) (room : ℕ) where
   bad-summary e = rw e refl
 
   -- a summary that may be used: what the map has under the name decides
-  pub good-summary : badSummary s u ≡ false → treeNamed s u name room ≡ treeUnder s room (findIn (mapOf s u) name)
+  pub good-summary : badSummary s u ≡ false → treeNamed s u name room ≡ treeUnder s room name (findIn (mapOf s u) name)
   unfolding treeNamed refuseIf
-  good-summary e = rw e (sym (under-named s room (mapOf s u) name))
+  good-summary e = rw e (sym (under-named s room name (mapOf s u)))
 
 -- ---- the call
 
 module _ (s : List ℕ) (u : Summary) (name bytes : List ℕ) where
-  abbrev R : ℕ → Type 0
+  abbrev R : TreeStage → ℕ → Type 0
   R = TreeRefusal s u name (roomIn (length bytes))
 
   -- the call's number and table, and the sentences that follow
   abbrev pub Promised : ℕ → List ℕ → Type 0
   Promised n out =
-      (n ≡ treeCall s u name bytes .number) × ((out ≡ treeCall s u name bytes .buffer) × (First R treeOrder n × (AcceptedUnless R n
-      × ((n ≡ 0 → TreeEntered s u name (length bytes) out) × (Refuses n → out ≡ zeros (length bytes))))))
+      (n ≡ treeCall s u name bytes .number) × ((out ≡ treeCall s u name bytes .buffer) × (FirstAt R treeOrder n × (AcceptedUnless (AtSome R) n
+      × ((n ≡ 0 → TreeEntered s u name (length bytes) out) × ((Refuses n → out ≡ zeros (length bytes)) × TreeNamed s u name n)))))
 
   promised : {n : ℕ} {out : List ℕ} → n ≡ treeCall s u name bytes .number → out ≡ treeCall s u name bytes .buffer → Promised n out
   promised e f = (
@@ -53,7 +54,10 @@ module _ (s : List ℕ) (u : Summary) (name bytes : List ℕ) where
         rw e (tree-number s u name bytes),
         (
           rw e (tree-accepted s u name bytes),
-          (λ q. rw f (tree-table s u name bytes (sym e ∙ q)), λ g. f ∙ tree-refused s u name bytes (λ q. g (e ∙ q))),
+          (
+            λ q. rw f (tree-table s u name bytes (sym e ∙ q)),
+            (λ g. f ∙ tree-refused s u name bytes (λ q. g (e ∙ q)), rw e (tree-named s u name bytes)),
+          ),
         ),
       ),
     ),

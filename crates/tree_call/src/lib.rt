@@ -12,9 +12,9 @@ ghost use lib.ListN.{length};
 ghost use Rattle.format.specs.Bytes.{zeros};
 ghost use Rattle.format.specs.Trees.{roomIn};
 ghost use Rattle.format.specs.Calls.Tree.{treeNamed, treeCall};
-ghost use Rattle.format.specs.Refused.Order.{First};
+ghost use Rattle.format.specs.Refused.Order.{FirstAt};
 ghost use Rattle.format.specs.Refused.Tree.{TreeRefusal, treeOrder};
-ghost use Rattle.format.specs.Sentences.{Refuses, AcceptedUnless, TreeEntered};
+ghost use Rattle.format.specs.Sentences.{Refuses, AcceptedUnless, AtSome, TreeEntered, TreeNamed};
 ghost use Rattle.named_tree.specs.Named.{Reads};
 
 // The number of a tree that is read whole.
@@ -29,17 +29,18 @@ pub fn tree_named(file: &[u8], u: Summary, name: &[u8], table: &mut [u8]) -> Par
         return refuse(table, refusal::SUMMARY);
     }
     let map = data_of(file, u.map.start, u.map.len);
-    read_named(file, look_up(map, name), table)
+    read_named(file, name, look_up(map, name), table)
 }
 
 // The entries of the tree under a name, in file order and with zeros behind them; 0, or the number of the first refusal and a table of zeros.
 pub fn tree(file: &[u8], u: Summary, name: &[u8], table: &mut [u8]) -> u32
     ensures number { λ r. ⌜ r ≡ treeCall (now (file .entry)) u (now (name .entry)) (now (table .entry)) .number ⌝ }
     ensures buffer { λ _. ⌜ now (table .exit) ≡ treeCall (now (file .entry)) u (now (name .entry)) (now (table .entry)) .buffer ⌝ }
-    ensures first { λ r. ⌜ First (TreeRefusal (now (file .entry)) u (now (name .entry)) (roomIn (length (now (table .entry))))) treeOrder r ⌝ }
-    ensures accepted { λ r. ⌜ AcceptedUnless (TreeRefusal (now (file .entry)) u (now (name .entry)) (roomIn (length (now (table .entry))))) r ⌝ }
+    ensures first { λ r. ⌜ FirstAt (TreeRefusal (now (file .entry)) u (now (name .entry)) (roomIn (length (now (table .entry))))) treeOrder r ⌝ }
+    ensures accepted { λ r. ⌜ AcceptedUnless (AtSome (TreeRefusal (now (file .entry)) u (now (name .entry)) (roomIn (length (now (table .entry)))))) r ⌝ }
     ensures entries { λ r. ⌜ (r ≡ 0 → TreeEntered (now (file .entry)) u (now (name .entry)) (length (now (table .entry))) (now (table .exit))) ⌝ }
     ensures cleared { λ r. ⌜ (Refuses r → now (table .exit) ≡ zeros (length (now (table .entry)))) ⌝ }
+    ensures named { λ r. ⌜ TreeNamed (now (file .entry)) u (now (name .entry)) r ⌝ }
 {
     match tree_named(file, u, name, table) {
         Parsed::Entries(_) => ACCEPTED,

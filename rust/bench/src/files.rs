@@ -29,7 +29,8 @@ pub fn one_frame(sizes: Sizes) -> Vec<u8> {
     file.finish()
 }
 
-/// A file whose map has so many entries: 2 points, and for each of them half of all frames, which share one chunk.
+/// A file whose map has so many entries: 2 points, and for each of them half of all frames, which share one chunk. It bears
+/// the name of the last of them.
 pub fn large_map(entries: usize) -> Vec<u8> {
     let times = (entries - 2) / 2;
     let loops = [
@@ -38,8 +39,10 @@ pub fn large_map(entries: usize) -> Vec<u8> {
     ];
     let mut file = needed(Sizes::packed(4, 4, 1, 16), &loops);
     let offset = file.bytes.len() as u64;
-    file.chunk(b"ImageDataSeq|0!", &parts::frame(&[7; 32]));
-    for n in 0..2 * times as u64 {
+    let frames = 2 * times as u64;
+    let last = parts::frame_name(frames - 1);
+    file.chunk(last.as_bytes(), &parts::frame(&[7; 32]));
+    for n in 0..frames {
         file.entries.push(MapEntry {
             name: parts::frame_name(n).into_bytes(),
             offset,

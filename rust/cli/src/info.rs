@@ -2,11 +2,13 @@
 
 use crate::arguments::Arguments;
 use crate::failure::{Done, Failure};
-use crate::{json, open, text};
+use crate::{json, misnamed, open, text};
 use nd2::{Axis, Channel, Loop, Reader, Refusal, State, Summary, ZStep};
 use std::ffi::OsStr;
 use std::io::{self, Write};
 
+/// The map's name for the calibration.
+const CALIBRATION: &[u8] = b"ImageCalibrationLV|0!";
 /// The frames of more than these are not looked up.
 const MOST_FRAMES: u64 = 10_000_000;
 
@@ -16,6 +18,8 @@ struct Info<'f> {
     summary: &'f Summary,
     /// The size of a pixel in picometres, if it has a number of them.
     picometres: Option<u64>,
+    /// Where the map leads instead of to the calibration.
+    misnamed: Option<String>,
     channels: Vec<Channel>,
     /// How many frames the map has, if they were looked up.
     present: Option<u64>,
@@ -47,22 +51,26 @@ fn gathered<'f>(path: &'f OsStr, reader: &'f Reader) -> Result<Info<'f>, Failure
         }
         false => None,
     };
+    let (picometres, misnamed) = picometres(reader).map_err(refused("pixel size"))?;
     Ok(Info {
         path,
         bytes: reader.bytes().len(),
         summary,
-        picometres: picometres(reader).map_err(refused("pixel size"))?,
+        picometres,
+        misnamed,
         channels: reader.channels().map_err(refused("channels"))?,
         present,
     })
 }
 
-/// None where no size is stated or read, and where it has too many picometres; the summary tells which.
-fn picometres(reader: &Reader) -> Result<Option<u64>, Refusal> {
+/// The picometres, none where no size is stated or read and where there are too many of them, and where the map leads instead
+/// of to the calibration; the summary tells the rest.
+fn picometres(reader: &Reader) -> Result<(Option<u64>, Option<String>), Refusal> {
     match reader.picometres() {
-        Ok(picometres) => Ok(Some(picometres)),
+        Ok(picometres) => Ok((Some(picometres), None)),
         Err(Refusal::TABLE) => Err(Refusal::TABLE),
-        Err(_) => Ok(None),
+        Err(Refusal::CHUNK_NAME) => Ok((None, misnamed::told(reader.bytes(), &[CALIBRATION]))),
+        Err(_) => Ok((None, None)),
     }
 }
 
@@ -118,7 +126,10 @@ impl Info<'_> {
         match (self.summary.pixel_size, self.summary.state) {
             (Some((x, y)), _) => format!("{x} x {y} micrometres ({})", self.in_picometres()),
             (None, State::Packed) => "in a packed tree, not read".to_string(),
-            (None, _) => "not stated".to_string(),
+            (None, _) => match &self.misnamed {
+                Some(misnamed) => format!("not stated; {misnamed}"),
+                None => "not stated".to_string(),
+            },
         }
     }
 

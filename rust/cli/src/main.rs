@@ -9,6 +9,7 @@ mod fault;
 mod help;
 mod info;
 mod json;
+mod misnamed;
 mod open;
 mod plane;
 mod register;

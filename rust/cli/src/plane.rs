@@ -2,8 +2,8 @@
 
 use crate::arguments::Arguments;
 use crate::failure::{Done, Failure};
-use crate::{help, open, text};
-use nd2::{Reader, Refusal, Summary};
+use crate::{help, misnamed, open, text};
+use nd2::{Axis, Reader, Refusal, Summary};
 use std::ffi::{OsStr, OsString};
 use std::fs;
 use std::io::{self, BufWriter, Write};
@@ -95,6 +95,22 @@ impl Asked {
     }
 }
 
+impl At {
+    /// The map's name for its frame.
+    fn frame(&self, summary: &Summary) -> String {
+        let index = |axis| match axis {
+            Axis::T => self.t,
+            Axis::Z => self.z,
+            Axis::P => self.scene,
+        };
+        let loops = summary.loops.iter();
+        let number = loops.fold(0u64, |n, one| {
+            n.saturating_mul(one.count).saturating_add(index(one.axis))
+        });
+        format!("ImageDataSeq|{number}!")
+    }
+}
+
 impl std::fmt::Display for At {
     fn fmt(&self, f: &mut std::fmt::Formatter<'_>) -> std::fmt::Result {
         write!(
@@ -105,12 +121,13 @@ impl std::fmt::Display for At {
     }
 }
 
-/// What is wrong with a plane, and of indices that are too large how many there are.
+/// What is wrong with a plane; of indices that are too large how many there are, of a frame in a chunk of another name which.
 pub fn refused(path: &OsStr, reader: &Reader, at: At, refusal: Refusal) -> Failure {
     let s = reader.summary();
     let place = format!("{}: plane at {at}", text::of_os(path));
     if refusal != Refusal::INDEX {
-        return Failure::at(place, refusal);
+        let frame = at.frame(s);
+        return misnamed::failure(place, refusal, reader.bytes(), &[frame.as_bytes()]);
     }
     let counts = format!(
         "there are {} scenes, {} times, {} components and {} focus steps",

@@ -1,8 +1,8 @@
 //! `nd2 tree`: the tree of a chunk.
 
 use crate::arguments::Arguments;
-use crate::failure::{Done, Failure};
-use crate::{open, text};
+use crate::failure::Done;
+use crate::{misnamed, open, text};
 use nd2::{Entry, Value};
 use std::io::{self, BufWriter, Write};
 use std::os::unix::ffi::OsStringExt;
@@ -22,7 +22,7 @@ pub fn run(arguments: Arguments) -> Done {
     let place = || format!("{}: chunk {chunk}", text::of_os(&path));
     let tree = reader
         .tree(&name)
-        .map_err(|refusal| Failure::at(place(), refusal))?;
+        .map_err(|refusal| misnamed::failure(place(), refusal, &file, &[&name]))?;
     let mut out = BufWriter::new(io::stdout().lock());
     for entry in tree.entries() {
         print(&mut out, entry)?;

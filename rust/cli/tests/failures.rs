@@ -3,6 +3,7 @@
 mod common;
 
 use common::{Folder, Ran};
+use sample::misnamed::{leading, Kind};
 use sample::roller;
 use std::process::Stdio;
 
@@ -146,6 +147,76 @@ fn what_is_no_sheet_is_told_with_what_is_wrong() {
     let parts = ["plane at scene 2, t 0, c 0, z 0: index", "(21)"];
     folder.run(&words).fails(1, &parts);
     assert!(!folder.has("q.tif"));
+}
+
+/// What is said of a chunk of another name, up to the map's entry.
+const NAME: &str =
+    "chunk name: a chunk does not bear the name that the map has for it (29); the map's entry ";
+
+#[test]
+fn a_frame_of_another_name_is_told_with_both_names() {
+    let folder = Folder::new();
+    folder.write("a.nd2", &leading(5, Kind::Neighbour));
+    let what = "nd2: a.nd2: plane at scene 0, t 1, c 0, z 0: ";
+    let what = format!("{what}{NAME}ImageDataSeq|1! leads to a chunk named ImageDataSeq|10!\n");
+    for output in ["p.tif", "p.pgm", "p.raw"] {
+        let ran = folder.run(&["plane", "a.nd2", "--t", "1", "-o", output]);
+        ran.fails(1, &[&what]);
+        assert!(!folder.has(output));
+    }
+    let ran = folder.run(&["check", "a.nd2"]);
+    ran.fails(1, &[&what]);
+    assert_eq!(ran.out, "a.nd2: of 11 planes 2 read, 9 refused\n");
+    let words = ["plane", "a.nd2", "--t", "10", "-o", "p.raw"];
+    folder.run(&words).fine();
+}
+
+#[test]
+fn the_number_of_a_frame_is_told_by_its_loops() {
+    let folder = Folder::new();
+    let mut bytes = roller(2, 3, 1, 2, 2);
+    let name = b"ImageDataSeq|4!";
+    let chunk = bytes.windows(name.len()).position(|part| part == name);
+    bytes[chunk.unwrap() + 13] = b'5';
+    folder.write("a.nd2", &bytes);
+    let what = "nd2: a.nd2: plane at scene 1, t 0, c 0, z 1: ";
+    let what = format!("{what}{NAME}ImageDataSeq|4! leads to a chunk named ImageDataSeq|5!\n");
+    let ran = folder.run(&["check", "a.nd2"]);
+    ran.fails(1, &[&what]);
+    assert_eq!(ran.out, "a.nd2: of 6 planes 5 read, 1 refused\n");
+}
+
+#[test]
+fn a_tree_of_another_name_is_told_with_both_names() {
+    let folder = Folder::new();
+    for (i, name) in ["ImageAttributesLV!", "ImageMetadataLV!"]
+        .iter()
+        .enumerate()
+    {
+        folder.write("a.nd2", &leading(i, Kind::Unnamed));
+        let what = format!("nd2: a.nd2: {NAME}{name} leads to a chunk without a name\n");
+        for words in [
+            &["info", "a.nd2"][..],
+            &["register", "a.nd2"],
+            &["check", "a.nd2"],
+        ] {
+            folder.run(words).fails(1, &[&what]);
+        }
+    }
+    folder.write("a.nd2", &leading(2, Kind::Shorter));
+    let leads = "ImageCalibrationLV|0! leads to a chunk named ImageCalibrationLV|0";
+    let tree = folder.run(&["tree", "a.nd2", "ImageCalibrationLV|0"]);
+    let what = format!("nd2: a.nd2: chunk ImageCalibrationLV|0!: {NAME}{leads}\n");
+    tree.fails(1, &[&what]);
+    let info = folder.run(&["info", "a.nd2"]).fine();
+    let size = format!("  pixel size  not stated; the map's entry {leads}\n");
+    assert!(info.contains(&size), "{info}");
+    folder.write("a.nd2", &leading(3, Kind::Shorter));
+    let info = folder.run(&["info", "a.nd2"]).fine();
+    assert!(
+        info.contains("  channel 0   no name, no colour\n"),
+        "{info}"
+    );
 }
 
 #[test]

@@ -110,7 +110,7 @@ pub fn tell_tree(out: &mut Out, file: &[u8], name: &[u8]) -> Result<()> {
     let map = read_chunkmap(file)?;
     let entry = map.get(name);
     let (offset, _) = entry.ok_or_else(|| Error::Parse("no such map entry".to_string()))?;
-    let root = parse_clx_variant(chunk_data(file, *offset, None)?)?;
+    let root = parse_clx_variant(chunk_data(file, *offset, Some(name))?)?;
     let mut told = Out::default();
     tell_level(&mut told, &root);
     out.bytes(&told.0);

@@ -1,7 +1,7 @@
 //! The original, asked over a pipe: a request on stdin, its answer on stdout, each with its length before it.
 //!
 //! The names that the original expects from crates and modules that were not published with it stand in `stand_ins`,
-//! `error` and `io`; its own files are compiled as they are.
+//! `error` and `io`; its own files are compiled as they were written beside them.
 extern crate self as byteorder;
 extern crate self as flate2;
 extern crate self as memmap2;

@@ -8,7 +8,7 @@ use crate::wire::Out;
 use plan::{Plan, MOST_FRAMES, TREES};
 use second::channels::all_single;
 use second::names::{scalars, units_at};
-use second::refusal::{BUFFER, CHANNEL_ROW, MAP, PACKED, SUMMARY, TABLE};
+use second::refusal::{BUFFER, CHANNEL_ROW, CHUNK, CHUNK_NAME, MAP, PACKED, SUMMARY, TABLE};
 use second::sheets::HEAD_BYTES;
 use second::trees::{written, ENTRY_BYTES};
 use second::values::{root, Level, Value};
@@ -110,6 +110,14 @@ impl Check<'_> {
         }
     }
 
+    /// The number of a message. One about a name is of the map's own chunk where that cannot be read.
+    fn number(&self, message: &str) -> Option<u32> {
+        match number(message) {
+            Some(CHUNK_NAME) if self.original.map.is_err() => Some(CHUNK),
+            number => number,
+        }
+    }
+
     /// Whether both accept; where not, both have to give the same number.
     fn both<T>(&mut self, what: &str, ours: u32, theirs: &Told<T>) -> bool {
         let message = match theirs {
@@ -117,7 +125,7 @@ impl Check<'_> {
             Ok(_) => "accepted",
             Err(message) => message,
         };
-        let theirs = number(message);
+        let theirs = self.number(message);
         let packed = theirs == Some(PACKED) || message.starts_with(NO_TEN_BYTES);
         if ours == PACKED && packed {
             self.findings.listed.push(Listed::PackedRecords);
@@ -208,7 +216,7 @@ impl Check<'_> {
     fn map_number(&self) -> Option<u32> {
         match &self.original.trees[TREES.len() - 1] {
             Err(message) if message == "no such map entry" => Some(0),
-            Err(message) => number(message),
+            Err(message) => self.number(message),
             Ok(_) => None,
         }
     }
@@ -327,7 +335,7 @@ impl Check<'_> {
             return;
         };
         let trees = &self.answers.trees[..3];
-        let whole = full.is_ok() && matches!(trees[2].number, 0 | 4 | 11);
+        let whole = full.is_ok() && matches!(trees[2].number, 0 | 4 | 11 | CHUNK_NAME);
         let records = |tree: &Lent| tree.bytes.len().div_ceil(ENTRY_BYTES);
         let fits = trees.iter().all(|tree| records(tree) <= self.plan.room);
         if whole && !fits {

@@ -1,20 +1,23 @@
 //! Holds readers against the original on random files.
 //!
-//!     compare ORIGINAL_FOLDER [--files N] [--seed S] [--corners] [--sizes N]
+//!     compare ORIGINAL_FOLDER [--files N] [--seed S] [--corners] [--sizes N] [--unchanged]
 //!
-//! ORIGINAL_FOLDER has the original's nd2_reader.rs, calibration.rs, types.rs and guard.rs. File i of a run is the one
-//! of seed S + i; with --corners, files at the limits come before them, which take time and memory. With --sizes,
-//! files of single pixel sizes come last: what is no double, doubles by name, those around each power of two, and N at
-//! random from seed S. Differences that docs/DIFFERENCES.md lists are counted; any other is printed with its seed, its
-//! file is saved, and the exit status is 1.
+//! ORIGINAL_FOLDER has the original's nd2_reader.rs, calibration.rs, types.rs and guard.rs; `reference` says which of its
+//! calls are changed. First come files whose map leads to chunks of other names, then file i of a run is the one of seed
+//! S + i; with --corners, files at the limits come before all, which take time and memory. With --sizes, files of single
+//! pixel sizes come last: what is no double, doubles by name, those around each power of two, and N at random from seed S.
+//! Differences that docs/DIFFERENCES.md lists are counted; any other is printed with its seed, its file is saved, and the
+//! exit status is 1. With --unchanged no call of the original is changed: then there are differences.
 
 mod answers;
 mod check;
+mod misnamed;
 mod numbers;
 mod original;
 mod picometres;
 mod proved;
 mod reader;
+mod reference;
 mod run;
 mod sheets;
 mod table;
@@ -36,6 +39,7 @@ struct Options {
     seed: u64,
     corners: bool,
     sizes: Option<u64>,
+    unchanged: bool,
 }
 
 fn options() -> Option<Options> {
@@ -46,6 +50,7 @@ fn options() -> Option<Options> {
         seed: 1,
         corners: false,
         sizes: None,
+        unchanged: false,
     };
     while let Some(argument) = arguments.next() {
         let mut value = || arguments.next()?.parse().ok();
@@ -54,6 +59,7 @@ fn options() -> Option<Options> {
             "--seed" => options.seed = value()?,
             "--corners" => options.corners = true,
             "--sizes" => options.sizes = Some(value()?),
+            "--unchanged" => options.unchanged = true,
             _ => return None,
         }
     }
@@ -78,13 +84,16 @@ fn sizes(run: &mut Run, seed: u64, random: u64) -> io::Result<()> {
 
 /// Builds the original in `folder` and compares all files.
 fn compared(options: &Options, folder: &Path) -> io::Result<Tally> {
-    let program = original::build(&options.original, folder)?;
+    let program = original::build(&options.original, folder, options.unchanged)?;
     let mut run = Run::new(Original::start(&program)?);
     if options.corners {
         for (name, write) in sample::corner::ALL {
             println!("{name}");
             run.case(&Case::corner(name, write()))?;
         }
+    }
+    for (label, file) in sample::misnamed::all() {
+        run.case(&Case::corner(&label, file))?;
     }
     for seed in options.seed..options.seed + options.files {
         run.case(&Case::seeded(seed))?;
@@ -97,7 +106,9 @@ fn compared(options: &Options, folder: &Path) -> io::Result<Tally> {
 
 fn main() -> ExitCode {
     let Some(options) = options() else {
-        eprintln!("compare ORIGINAL_FOLDER [--files N] [--seed S] [--corners] [--sizes N]");
+        eprintln!(
+            "compare ORIGINAL_FOLDER [--files N] [--seed S] [--corners] [--sizes N] [--unchanged]"
+        );
         return ExitCode::from(2);
     };
     let folder = std::env::temp_dir().join(format!("compare-original-{}", std::process::id()));

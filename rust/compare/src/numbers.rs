@@ -1,7 +1,8 @@
 //! Document 01's number for each message of the original.
 
-/// A message begins with one of these. The first that fits decides.
-const MESSAGES: [(&str, u32); 39] = [
+/// A message begins with one of these. The first that fits decides. The message of 29 is that of the map's own chunk too,
+/// where it is 4 (`check`).
+const MESSAGES: [(&str, u32); 40] = [
     ("ND2 file too small for a header", 1),
     ("not a modern ND2 file", 1),
     ("legacy JPEG2000", 2),
@@ -13,6 +14,7 @@ const MESSAGES: [(&str, u32); 39] = [
     ("ND2 chunk offset", 4),
     ("ND2 chunk header", 4),
     ("ND2 chunk at", 4),
+    ("ND2 chunk name mismatch", 29),
     ("ND2 chunk name", 4),
     ("ND2 chunk data", 4),
     ("ND2 read out of bounds", 6),
@@ -51,7 +53,7 @@ pub fn number(message: &str) -> Option<u32> {
 }
 
 /// The trade words, number 1 first.
-pub const WORDS: [&str; 28] = [
+pub const WORDS: [&str; 29] = [
     "foreign",
     "legacy",
     "tail",
@@ -80,4 +82,5 @@ pub const WORDS: [&str; 28] = [
     "sheet long",
     "sheet layout",
     "size range",
+    "chunk name",
 ];

@@ -1,9 +1,10 @@
-//! The original, built unchanged from its own source and run as a child process.
+//! The original, built from its own source and run as a child process.
 //!
-//! Its four files are copied as they are into a folder of their own; after the reader's text stands one line that names
-//! a child module, through which what is private there is told. `rustc` compiles them with the driver, without any
-//! other crate.
+//! Its four files are copied into a folder of their own, but for five calls as they are (`reference`); after the reader's
+//! text stands one line that names a child module, through which what is private there is told. `rustc` compiles them with
+//! the driver, without any other crate.
 
+use crate::reference;
 use crate::wire::{In, Out};
 use second::{Axis, Loop, Range};
 use std::fs;
@@ -58,8 +59,22 @@ pub struct Question<'a> {
     pub file: &'a [u8],
 }
 
+/// The reader's text: that of the reference, or the original's own.
+fn reader(original: &Path, unchanged: bool) -> io::Result<String> {
+    let text = fs::read_to_string(original.join(READER))?;
+    if unchanged {
+        println!("the original, unchanged");
+        return Ok(text);
+    }
+    let (text, changed) = reference::of(&text).map_err(io::Error::other)?;
+    println!(
+        "the reference: {changed} calls of the original pass the name of the chunk that they read"
+    );
+    Ok(text)
+}
+
 /// Writes driver and original into `folder` and compiles them; gives the program's path.
-pub fn build(original: &Path, folder: &Path) -> io::Result<PathBuf> {
+pub fn build(original: &Path, folder: &Path, unchanged: bool) -> io::Result<PathBuf> {
     fs::create_dir_all(folder)?;
     for (name, text) in DRIVER {
         fs::write(folder.join(name), text)?;
@@ -67,8 +82,8 @@ pub fn build(original: &Path, folder: &Path) -> io::Result<PathBuf> {
     for name in UNCHANGED {
         fs::copy(original.join(name), folder.join(name))?;
     }
-    let mut text = fs::read(original.join(READER))?;
-    text.extend_from_slice(b"\n#[path = \"access.rs\"]\npub mod access;\n");
+    let mut text = reader(original, unchanged)?;
+    text.push_str("\n#[path = \"access.rs\"]\npub mod access;\n");
     fs::write(folder.join(READER), text)?;
     let program = folder.join("original");
     let status = Command::new("rustc")

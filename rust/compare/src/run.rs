@@ -123,6 +123,7 @@ impl Run {
 
     fn compare(&mut self, case: &Case, plan: &Plan, original: Option<&Answer>) -> io::Result<()> {
         let mut first: Option<Answers> = None;
+        let mut misnamed = false;
         for i in 0..self.readers.len() {
             let reader = self.readers[i].as_ref();
             let name = reader.name();
@@ -136,12 +137,16 @@ impl Run {
                 Some(first) => findings.unlisted.extend(first.differing(&answers)),
                 None => {
                     self.tally.count(&answers);
+                    misnamed = self.tally.misnamed.count(&answers);
                     self.tally.listed(&mut findings.listed);
                     self.tally.channels(findings.channels);
                     self.tally.sheets += findings.sheets;
                     self.tally.size(findings.size);
                     first = Some(answers);
                 }
+            }
+            if misnamed {
+                self.tally.misnamed.differing(&findings.unlisted);
             }
             self.report(case, name, &findings.unlisted)?;
         }

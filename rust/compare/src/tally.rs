@@ -2,6 +2,7 @@
 
 use crate::answers::{Answers, Strange};
 use crate::check::{Channels, Listed};
+use crate::misnamed::Misnamed;
 use crate::numbers::WORDS;
 use second::refusal::SIZE_RANGE;
 use std::collections::BTreeMap;
@@ -40,6 +41,7 @@ pub struct Tally {
     sized: u64,
     passing_sizes: u64,
     no_sizes: u64,
+    pub misnamed: Misnamed,
     listed: BTreeMap<Listed, u64>,
     hits: [[u64; 9]; NUMBERS],
 }
@@ -99,7 +101,8 @@ impl Tally {
         (1..NUMBERS).filter(|number| !given(number)).collect()
     }
 
-    pub fn print(&self) {
+    /// How many files gave each number in each call.
+    fn print_numbers(&self) {
         println!("files by number and call:");
         let heads: Vec<String> = CALLS.iter().map(|call| format!("{call:>11}")).collect();
         println!("{:>2} {:<12}{}", "", "", heads.concat());
@@ -108,6 +111,10 @@ impl Tally {
             let counts: Vec<String> = calls.iter().map(|n| format!("{n:>11}")).collect();
             println!("{number:>2} {word:<12}{}", counts.concat());
         }
+    }
+
+    pub fn print(&self) {
+        self.print_numbers();
         for one in Listed::ALL {
             let count = self.listed.get(&one).copied().unwrap_or(0);
             println!("listed difference '{}': {count} files", one.name());
@@ -129,6 +136,7 @@ impl Tally {
             "pixel sizes held against the original's: {} files, {} of them past 2^64 - 1 picometres; without one: {}",
             self.sized + self.passing_sizes, self.passing_sizes, self.no_sizes
         );
+        self.misnamed.print();
         let missing = self.missing();
         if !missing.is_empty() {
             println!("numbers that no file gave (26 needs one of 4 GB): {missing:?}");

@@ -27,8 +27,9 @@ impl<'a> Reader<'a> {
     ///
     /// # Errors
     ///
-    /// 1 to 5 where it is no ND2 file or its map cannot be read, 6 to 11 where a tree that is needed cannot be, 12 to 17
-    /// where it holds what is not read, and 18 where there is no memory for the entries of a tree.
+    /// 1 to 5 where it is no ND2 file or its map cannot be read, 6 to 11 where a tree that is needed cannot be, 29 where its
+    /// chunk bears another name than the map's, 12 to 17 where it holds what is not read, and 18 where there is no memory
+    /// for the entries of a tree.
     ///
     /// ```
     /// let bytes = sample::roller(24, 11, 2, 4, 4);
@@ -64,7 +65,8 @@ impl<'a> Reader<'a> {
     /// # Errors
     ///
     /// 21 for an index that is not below its count, 22 for a plane that is too large, 23 where the file does not have the
-    /// frame, 4 and 24 where the frame cannot be read.
+    /// frame, 4 and 24 where the frame cannot be read, and 29 where the map leads to a chunk of another name, as to the frame
+    /// beside it.
     ///
     /// ```
     /// let bytes = sample::roller(24, 11, 2, 4, 4);
@@ -154,7 +156,8 @@ impl<'a> Reader<'a> {
     }
 
     /// The channels, one for each component. A plane record of the file may cover several components, as a colour
-    /// camera's does: these have the same name and colour. One that the file does not describe has neither.
+    /// camera's does: these have the same name and colour. One that the file does not describe has neither, and so have all
+    /// where the chunk that describes them bears another name than the map's.
     ///
     /// # Errors
     ///
@@ -183,9 +186,9 @@ impl<'a> Reader<'a> {
     ///
     /// # Errors
     ///
-    /// 11 where the file states no size above 0, 28 where the size is infinite or over 2^64 - 1 picometres, 4 and 6 to
-    /// 10 where the tree that states it cannot be read (8 where it is packed), and 18 where there is no memory for its
-    /// entries.
+    /// 11 where the file states no size above 0, 28 where the size is infinite or over 2^64 - 1 picometres, 4, 29 and 6 to
+    /// 10 where the tree that states it cannot be read (8 where it is packed, 29 where its chunk bears another name), and
+    /// 18 where there is no memory for its entries.
     ///
     /// ```
     /// let bytes = sample::roller(24, 11, 2, 4, 4);
@@ -234,8 +237,8 @@ impl<'a> Reader<'a> {
     ///
     /// # Errors
     ///
-    /// 11 where the map has no such chunk, 4 where it is no chunk, 6 to 10 where the tree cannot be read, and 18 where
-    /// there is no memory for its entries.
+    /// 11 where the map has no such chunk, 4 where it is no chunk, 29 where it bears another name, 6 to 10 where the tree
+    /// cannot be read, and 18 where there is no memory for its entries.
     ///
     /// ```
     /// let bytes = sample::roller(24, 11, 2, 4, 4);

@@ -60,6 +60,7 @@ refusals! {
     26 SHEET_LONG "sheet long" "a sheet would have more than 4,294,967,295 bytes"
     27 SHEET_LAYOUT "sheet layout" "the sheet is not of this reader's layout"
     28 SIZE_RANGE "size range" "the pixel size is infinite, or more than 2^64 - 1 picometres"
+    29 CHUNK_NAME "chunk name" "a chunk does not bear the name that the map has for it"
 }
 
 impl Refusal {
@@ -122,7 +123,7 @@ mod tests {
     #[test]
     fn numbers_rise_from_one_without_gaps() {
         let numbers: Vec<u32> = Refusal::ALL.iter().map(|r| r.number()).collect();
-        assert_eq!(numbers, (1..=28).collect::<Vec<u32>>());
+        assert_eq!(numbers, (1..=29).collect::<Vec<u32>>());
     }
 
     #[test]
@@ -133,6 +134,7 @@ mod tests {
         assert_eq!(Refusal::SHEET_LONG.word(), "sheet long");
         assert_eq!(Refusal::SHEET_LAYOUT.word(), "sheet layout");
         assert_eq!(Refusal::SIZE_RANGE.word(), "size range");
+        assert_eq!(Refusal::CHUNK_NAME.word(), "chunk name");
     }
 
     #[test]

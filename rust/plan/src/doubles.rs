@@ -2,17 +2,18 @@
 //! the nearest number of its range; here such a double is as good as not there (change request 4). So files that have one
 //! are not compared with the original.
 //!
-//! Looked at are the trees of attributes, experiment and channels, each as the last map entry of its name has it, if all of
-//! it can be read, whatever else is wrong with the file. In such a tree, with repeated names merged, every value at any depth
-//! counts that has the name of a field, whether or not a call comes to it, and every element of a list pItemValid. That is
-//! all that a call reads as a whole number, and somewhat more. A whole number past u32 is absent in the original too, so
-//! that is no reason to leave a file out. What a whole number is, is said here once more: a reading that takes too few would
-//! else leave out the files that show it.
+//! Looked at are the trees of attributes, experiment and channels, each as the last map entry of its name has it, if its
+//! chunk bears that name and all of it can be read, whatever else is wrong with the file. In such a tree, with repeated
+//! names merged, every value at any depth counts that has the name of a field, whether or not a call comes to it, and every
+//! element of a list pItemValid. That is all that a call reads as a whole number, and somewhat more. A whole number past u32
+//! is absent in the original too, so that is no reason to leave a file out. What a whole number is, is said here once more: a
+//! reading that takes too few would else leave out the files that show it.
 
 use sample::parts::{ATTRIBUTES, CHANNELS, EXPERIMENT};
-use second::chunks::{self, part};
+use second::chunks::part;
 use second::map::{self, Map};
 use second::names::is;
+use second::refusal::MISSING;
 use second::trees;
 use second::values::{self, Level, Slot, Value};
 
@@ -66,8 +67,8 @@ pub fn not_whole(file: &[u8]) -> Vec<&'static str> {
 /// The tree of a name, whatever table it takes.
 fn root(file: &[u8], name: &str) -> Option<Level> {
     let data = part(file, map::place(file).ok()?)?;
-    let offset = Map::read(data).ok()?.find(name.as_bytes())?;
-    let data = chunks::data(file, offset, b"").ok()?;
+    let map = Map::read(data).ok()?;
+    let data = map.chunk(file, name.as_bytes(), MISSING).ok()?;
     let entries = trees::read(file, data, usize::MAX).ok()?;
     Some(values::root(file, &entries))
 }

@@ -5,8 +5,9 @@ pub mod doubles;
 use sample::parts::{ATTRIBUTES, CALIBRATION, CHANNELS, EXPERIMENT};
 use sample::random::SPARE;
 use sample::Rng;
-use second::chunks::{self, part};
+use second::chunks::part;
 use second::map::{self, Map};
+use second::refusal::MISSING;
 use second::sheets::HEAD_BYTES;
 use second::trees::ENTRY_BYTES;
 use second::{Axis, Loop, Range, Summary};
@@ -108,9 +109,10 @@ impl Plan {
 /// "48 × (tree bytes ÷ 2, rounded down) bytes always suffice": for the largest of the trees that are asked for.
 fn sufficient(file: &[u8]) -> Result<usize, u32> {
     let map = Map::read(part(file, map::place(file)?).unwrap_or(&[]))?;
-    let offsets = TREES.iter().filter_map(|name| map.find(name.as_bytes()));
-    let lengths = offsets.filter_map(|offset| chunks::data(file, offset, b"").ok());
-    let most = lengths.map(|data| data.len as usize / 2).max();
+    let chunks = TREES
+        .iter()
+        .map(|name| map.chunk(file, name.as_bytes(), MISSING));
+    let most = chunks.flatten().map(|data| data.len as usize / 2).max();
     Ok(most.unwrap_or(0) * ENTRY_BYTES)
 }
 

@@ -3,7 +3,7 @@
 use crate::answer::State;
 use crate::questions::{about, all, channels_of};
 use crate::step::Step;
-use crate::{pixel, rules, sheets, whole};
+use crate::{misnamed, pixel, rules, sheets, whole};
 use sample::parts::{self, Sizes};
 use sample::{Nd2, Roller};
 use second::sheets::HEAD_BYTES;
@@ -31,6 +31,7 @@ pub fn steps() -> Vec<Step> {
     steps.extend(sheets::all());
     steps.extend(whole::all());
     steps.extend(pixel::all());
+    steps.extend(misnamed::all());
     steps
 }
 

@@ -6,12 +6,13 @@
 //!
 //! The list is made from seeds alone, so it is the same in every run: document 01's edges, files of single rules, small
 //! rollers with all their planes, files whose plane records cover several components, random files, good and damaged,
-//! sheets, good and damaged, every field that is read as a whole number with doubles at the limits, and pixel sizes
-//! (`list`, `rules`, `sheets`, `whole` and `pixel` say which, `questions` what is asked about files, `step` how it is
-//! stored). A change of `sample` or of `plan` changes it: write it anew.
+//! sheets, good and damaged, every field that is read as a whole number with doubles at the limits, pixel sizes, and chunks
+//! of other names than the map's (`list`, `rules`, `sheets`, `whole`, `pixel` and `misnamed` say which, `questions` what is
+//! asked about files, `step` how it is stored). A change of `sample` or of `plan` changes it: write it anew.
 
 mod answer;
 mod list;
+mod misnamed;
 mod pixel;
 mod questions;
 mod rules;
@@ -20,7 +21,7 @@ mod step;
 mod whole;
 
 use answer::State;
-use second::refusal::{SHEET_LONG, SIZE_RANGE};
+use second::refusal::{CHUNK_NAME, SHEET_LONG};
 use std::collections::BTreeSet;
 use std::path::PathBuf;
 use std::process::ExitCode;
@@ -81,7 +82,7 @@ impl Stored {
 fn missing(steps: &[Step]) -> Vec<u32> {
     let mut given: BTreeSet<u32> = list::given(steps).into_iter().map(|(_, n)| n).collect();
     given.insert(SHEET_LONG);
-    (0..=SIZE_RANGE).filter(|n| !given.contains(n)).collect()
+    (0..=CHUNK_NAME).filter(|n| !given.contains(n)).collect()
 }
 
 /// What is wrong with a stored list, whose steps would be `steps` if it were written now.
@@ -130,7 +131,7 @@ mod tests {
     use super::*;
 
     /// The stored list is the one that would be written, and has every number; a sheet is written with each that a plane
-    /// gives, and read with each of its own; a pixel size has each of its own.
+    /// gives, and read with each of its own; a pixel size has each of its own. 29 is of the calls that come to a chunk.
     #[test]
     fn stored() {
         let steps = list::steps();
@@ -142,8 +143,14 @@ mod tests {
         };
         assert_eq!(numbers("sheet"), numbers("plane"));
         assert_eq!(numbers("read"), [0, 25, 27]);
-        let sizes = [0, 4, 5, 6, 7, 8, 9, 10, 11, 18, 20, 28];
+        let sizes = [0, 4, 5, 6, 7, 8, 9, 10, 11, 18, 20, 28, 29];
         assert_eq!(numbers("picometres"), sizes);
+        for call in ["open", "plane", "border", "tree", "sheet"] {
+            assert!(numbers(call).contains(&CHUNK_NAME), "{call}");
+        }
+        for call in ["channels", "register", "read"] {
+            assert!(!numbers(call).contains(&CHUNK_NAME), "{call}");
+        }
         assert_eq!(fault(&Stored::read().unwrap(), &steps), None);
     }
 
@@ -175,6 +182,47 @@ mod tests {
         numbered("a packed record", 8);
         numbered("tables for a calibration of three entries", 18);
         numbered("a calibration, its map cut, a summary that is refused", 0);
+    }
+
+    /// The lines under a label of the chunks of other names begin with these calls and numbers.
+    fn under(label: &str, numbers: &[(&str, u32)]) {
+        let text = format!("\n{}", lines(&misnamed::all()));
+        let after = text.split(&format!("\n{label}\n")).nth(1).expect(label);
+        for (line, (call, number)) in after.lines().zip(numbers) {
+            assert!(
+                line.starts_with(&format!("{call} {number} ")),
+                "{label}: {line}"
+            );
+        }
+    }
+
+    #[test]
+    fn trees_of_other_names() {
+        let opened = |number| [("open", number), ("border", number), ("tree", number)];
+        under("attributes: the chunk beside it", &opened(29));
+        under("experiment: a longer name", &opened(0));
+        let sized = [("open", 0), ("tree", 29), ("picometres", 29)];
+        under("calibration: a name without its !", &sized);
+        let channels = [("open", 0), ("tree", 29), ("channels", 0)];
+        under("channels: the chunk beside it", &channels);
+    }
+
+    #[test]
+    fn frames_of_other_names() {
+        let frame = |n| {
+            [
+                ("open", 0),
+                ("plane", n),
+                ("sheet", n),
+                ("border", n),
+                ("register", 0),
+            ]
+        };
+        under("frame: a name without its !", &frame(29));
+        under("frame: another name, data past the end", &frame(29));
+        under("frame: another name, past the end", &frame(4));
+        let planes = [("open", 0), ("plane", 0), ("plane", 29), ("plane", 0)];
+        under("frame 1 leads to frame 10", &planes);
     }
 
     /// A list with one other number in it, or one other line, is found out.

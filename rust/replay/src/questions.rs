@@ -80,9 +80,15 @@ pub fn channels_of(label: &str, file: Vec<u8>) -> Vec<Step> {
     steps
 }
 
-/// A file opened with a table that is just large enough, and its channels, where it opens and has such a tree.
-pub fn in_short(label: &str, file: Vec<u8>) -> Vec<Step> {
+/// A file opened with a table that is just large enough.
+pub fn in_table(label: &str, file: Vec<u8>) -> Vec<Step> {
     let table = for_open(&file);
+    let (label, file) = (Step::Label(label.to_string()), Step::File(file));
+    vec![label, file, Step::Open { table }]
+}
+
+/// The same, and the file's channels, where it opens and has such a tree.
+pub fn in_short(label: &str, file: Vec<u8>) -> Vec<Step> {
     let opened = second::calls::opened(&file, usize::MAX).ok();
     let told = opened.filter(|summary| second::calls::channel_root(&file, summary).is_ok());
     let channels = told.map(|summary| {
@@ -92,8 +98,7 @@ pub fn in_short(label: &str, file: Vec<u8>) -> Vec<Step> {
             buffer: CHANNEL_BYTES * components,
         }
     });
-    let mut steps = vec![Step::Label(label.to_string()), Step::File(file)];
-    steps.push(Step::Open { table });
+    let mut steps = in_table(label, file);
     steps.extend(channels);
     steps
 }

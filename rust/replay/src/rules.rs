@@ -378,10 +378,8 @@ fn map() -> Vec<Rule> {
     let experiment = counted(POINTS, 3).encode();
     let file = || file_of(&parts::attributes(SIZES), &experiment, &[]);
     let mut repeated = file();
-    let mut again = repeated.entries[2].clone();
-    again.offset = repeated.entries[3].offset;
-    again.size = u64::MAX;
-    repeated.entries.push(again);
+    repeated.add(&parts::frame_name(0), &parts::frame(&[9; 28]));
+    repeated.entries[4].size = u64::MAX;
     let mut leading = file();
     leading.entries[3].name = b"ImageDataSeq|01!".to_vec();
     let mut sizes = file();

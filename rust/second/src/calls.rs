@@ -4,7 +4,7 @@ use crate::attributes;
 use crate::bytes::{put_u32, put_u64, u32_at};
 use crate::calibration::{self, Calibration};
 use crate::channels::{self, Channel};
-use crate::chunks::{self, part, MARK};
+use crate::chunks::{part, MARK};
 use crate::loops;
 use crate::map::{self, Map};
 use crate::refusal::*;
@@ -17,10 +17,9 @@ const MOST_PLANE: u128 = 4_294_967_296;
 const PREFIX: u64 = 8;
 const RECORD_BYTES: usize = 24;
 
-/// The entries of the tree that the map has under a name: 11, the chunk's 4, the tree's own.
+/// The entries of the tree that the map has under a name: 11, the chunk's 4 and 29, the tree's own.
 fn named_tree(file: &[u8], map: &Map, name: &[u8], room: usize) -> Result<Vec<Entry>, u32> {
-    let offset = map.find(name).ok_or(MISSING)?;
-    let data = chunks::data(file, offset, b"")?;
+    let data = map.chunk(file, name, MISSING)?;
     trees::read(file, data, room)
 }
 
@@ -56,7 +55,8 @@ pub fn opened(file: &[u8], room: usize) -> Result<Summary, u32> {
     Ok(Summary::new(place, sizes, &loops, calibration))
 }
 
-/// "Opening reads calibration last, channels never; only 18 stops it there."
+/// "Opening reads calibration last, channels never; only 18 stops it there." A chunk of another name is as good as none,
+/// also where its tree is packed.
 fn calibrated(file: &[u8], map: &Map, experiment: &Level, room: usize) -> Result<Calibration, u32> {
     match named_root(file, map, calibration::CHUNK_NAME, room) {
         Ok(root) => Ok(calibration::read(&root, experiment)),
@@ -111,7 +111,7 @@ pub(crate) fn plane_bytes(s: &Summary) -> Result<u128, u32> {
     bytes.filter(|&bytes| bytes <= MOST_PLANE).ok_or(CEILING)
 }
 
-/// A frame's bytes after the prefix: "20, 21, 22, 5, 23, 4, 24".
+/// A frame's bytes after the prefix: "20, 21, 22, 5, 23, 4, 24", with 29 in the chunk's order.
 pub(crate) fn frame_of<'a>(file: &'a [u8], s: &Summary, at: [u64; 4]) -> Result<&'a [u8], u32> {
     let [scene, t, _, z] = at;
     if !s.sound(file) {
@@ -129,8 +129,7 @@ pub(crate) fn frame_of<'a>(file: &'a [u8], s: &Summary, at: [u64; 4]) -> Result<
     plane_bytes(s)?;
     let map = map_of(file, s)?;
     let name = format!("ImageDataSeq|{}!", s.frame(scene, t, z));
-    let offset = map.find(name.as_bytes()).ok_or(NO_FRAME)?;
-    frame_rows(file, s, chunks::data(file, offset, b"")?)
+    frame_rows(file, s, map.chunk(file, name.as_bytes(), NO_FRAME)?)
 }
 
 /// 24: "under 8 bytes, row bytes × height past 2^64 − 1 or more than what follows the prefix".

@@ -10,8 +10,9 @@ pub const MARK: u32 = 0x0ABE_CEDA;
 const HEADER: u128 = 16;
 
 /// The data of the chunk at `offset`, whose name has to begin with `begins`. "4 in order: header leaves the file, mark,
-/// name leaves the file, map name, data leaves the file"; since all of these are 4, only that each is tested matters.
-pub fn data(file: &[u8], offset: u64, begins: &[u8]) -> Result<Range, u32> {
+/// name leaves the file, map name, data leaves the file". Where the name is another one the number is `misnamed`: 4 for the
+/// map's own chunk, and since the sixth change request 29 for one that the map leads to.
+pub fn data(file: &[u8], offset: u64, begins: &[u8], misnamed: u32) -> Result<Range, u32> {
     let end = file.len() as u128;
     let name_start = offset as u128 + HEADER;
     if name_start > end {
@@ -28,7 +29,7 @@ pub fn data(file: &[u8], offset: u64, begins: &[u8]) -> Result<Range, u32> {
         return Err(CHUNK);
     }
     if !file[name_start as usize..name_end as usize].starts_with(begins) {
-        return Err(CHUNK);
+        return Err(misnamed);
     }
     if name_end + len as u128 > end {
         return Err(CHUNK);

@@ -2,8 +2,8 @@
 //!
 //! Written from the documents (docs/DIFFERENCES.md says what else was at hand), so that the proved reader and the original
 //! can be held against it. One file for each of document 01's headings; `calls` has the calls themselves. Of document 02 it
-//! has the first change request, in `channels`, the second, in `sheets`, the fourth, in `numbers`, and the fifth, in
-//! `picometres`, whose whole numbers of any length are in `big`.
+//! has the first change request, in `channels`, the second, in `sheets`, the fourth, in `numbers`, the fifth, in
+//! `picometres`, whose whole numbers of any length are in `big`, and the sixth, in `chunks` and `map`.
 
 pub mod attributes;
 pub mod big;

@@ -3,7 +3,7 @@
 
 use crate::bytes::u64_at;
 use crate::chunks;
-use crate::refusal::{MAP, TAIL};
+use crate::refusal::{CHUNK, CHUNK_NAME, MAP, TAIL};
 use crate::summary::Range;
 use std::collections::HashMap;
 
@@ -21,7 +21,7 @@ pub fn place(file: &[u8]) -> Result<Range, u32> {
         return Err(TAIL);
     }
     let offset = u64_at(tail, END.len()).ok_or(TAIL)?;
-    chunks::data(file, offset, NAME)
+    chunks::data(file, offset, NAME, CHUNK)
 }
 
 /// The entries in map order: name and offset. The size is never used.
@@ -67,6 +67,13 @@ impl<'a> Map<'a> {
     pub fn find(&self, name: &[u8]) -> Option<u64> {
         let found = self.entries.iter().rev().find(|entry| entry.0 == name);
         found.map(|entry| entry.1)
+    }
+
+    /// The data of the chunk under a name, which has to bear that name: `absent` where the map has none, then 4 and 29 in
+    /// the chunk's own order.
+    pub fn chunk(&self, file: &[u8], name: &[u8], absent: u32) -> Result<Range, u32> {
+        let offset = self.find(name).ok_or(absent)?;
+        chunks::data(file, offset, name, CHUNK_NAME)
     }
 
     /// All names with their last offsets, where many are looked up.

@@ -1,5 +1,5 @@
 //! "Why a file is turned away": the numbers, by their trade words. 26 and 27 are the second change request's,
-//! 28 is the fifth's.
+//! 28 is the fifth's, 29 the sixth's.
 
 pub const FOREIGN: u32 = 1;
 pub const LEGACY: u32 = 2;
@@ -29,3 +29,4 @@ pub const BUFFER: u32 = 25;
 pub const SHEET_LONG: u32 = 26;
 pub const SHEET_LAYOUT: u32 = 27;
 pub const SIZE_RANGE: u32 = 28;
+pub const CHUNK_NAME: u32 = 29;

@@ -22,7 +22,7 @@ returns c =
     let p = c .before .before in
     let i = p .before .before .before in
     let l = i .before .summary-from in
-    let (number, (size, (table, (cleared, (first, (accepted, (zero, rounded))))))) = p .picometres .ensures in
+    let (number, (size, (table, (cleared, (first, (accepted, (zero, (rounded, named)))))))) = p .picometres .ensures in
     let s = i .before .before .before .before .before .args .summary .now in
     let r = l .result in
     let e = l .ensures in
@@ -35,7 +35,10 @@ returns c =
           t,
           (
             cleared,
-            (where-said s r e k _ first, (unsaid s r e k _, (accepted-said s r e k _ _ accepted, (zero, λ z. said s r e k _ (rounded z))))),
+            (
+              where-said s r e k _ first,
+              (unsaid s r e k _, (accepted-said s r e k _ _ accepted, (zero, ((λ z. said s r e k _ (rounded z)), where-said s r e k _ named)))),
+            ),
           ),
         ),
       ),
@@ -59,7 +62,7 @@ returns-2 c =
     let k = i .if1 .left in
     let z = d .clear .ensures in
     let (n, (m, t)) = all-three (on-none _ _ r e k) refl refl z in
-    (n, (m, (t, (z, (where-unsaid s r e k _, ((λ _. refl), (refused-unsaid s r e k _, ((λ _. refl), λ x. absurd (omega arith)))))))))
+    (n, (m, (t, (z, (where-unsaid s r e k _, ((λ _. refl), (refused-unsaid s r e k _, ((λ _. refl), ((λ x. absurd (omega arith)), where-unsaid s r e k _)))))))))
 
 pub nd2-picometres-spec : {M : Type 1} → statement M
 nd2-picometres-spec =

@@ -22,13 +22,24 @@ returns c =
     let p = c .before .before in
     let i = p .before .before .before in
     let l = i .before .summary-from in
-    let (number, (buffer, (first, (accepted, (copied, untouched))))) = p .plane .ensures in
+    let (number, (buffer, (first, (accepted, (copied, (untouched, named)))))) = p .plane .ensures in
     let s = i .before .before .before .before .before .args .summary .now in
     let r = l .result in
     let e = l .ensures in
     let k = i .if1 .taken in
-    let (n, b) = both (on-some _ _ r e k) number buffer in
-    (n, (b, (untouched, (where-said s r e k _ first, (unsaid s r e k _, (accepted-said s r e k _ _ accepted, λ z. said s r e k _ (copied z)))))))
+    let (n, b) = both (on-some _ _ r e k) number buffer in (
+      n,
+      (
+        b,
+        (
+          untouched,
+          (
+            where-said s r e k _ first,
+            (unsaid s r e k _, (accepted-said s r e k _ _ accepted, ((λ z. said s r e k _ (copied z)), where-said s r e k _ named))),
+          ),
+        ),
+      ),
+    )
 
 returns-2 : tie.Need-returns-2
 unfolding planeOn
@@ -39,7 +50,7 @@ returns-2 c =
     let e = l .ensures in
     let k = c .if1 .left in
     let (n, b) = both (on-none _ _ r e k) refl refl in
-    (n, (b, ((λ _. refl), (where-unsaid s r e k _, ((λ _. refl), (refused-unsaid s r e k _, λ z. absurd (omega arith)))))))
+    (n, (b, ((λ _. refl), (where-unsaid s r e k _, ((λ _. refl), (refused-unsaid s r e k _, ((λ z. absurd (omega arith)), where-unsaid s r e k _)))))))
 
 pub nd2-plane-spec : {M : Type 1} → statement M
 nd2-plane-spec =

@@ -22,7 +22,7 @@ returns c =
     let p = c .before .before in
     let i = p .before .before .before in
     let l = i .before .summary-from in
-    let (number, (buffer, (first, (accepted, (written, (plane, untouched)))))) = p .sheet .ensures in
+    let (number, (buffer, (first, (accepted, (written, (plane, (untouched, named))))))) = p .sheet .ensures in
     let s = i .before .before .before .before .before .args .summary .now in
     let r = l .result in
     let e = l .ensures in
@@ -35,7 +35,10 @@ returns c =
           untouched,
           (
             where-said s r e k _ first,
-            (unsaid s r e k _, (accepted-said s r e k _ _ accepted, ((λ z. said s r e k _ (written z)), λ z. said s r e k _ (plane z)))),
+            (
+              unsaid s r e k _,
+              (accepted-said s r e k _ _ accepted, ((λ z. said s r e k _ (written z)), ((λ z. said s r e k _ (plane z)), where-said s r e k _ named))),
+            ),
           ),
         ),
       ),
@@ -49,8 +52,16 @@ returns-2 c =
     let r = l .result in
     let e = l .ensures in
     let k = c .if1 .left in
-    let (n, b) = both (on-none _ _ r e k) refl refl in
-    (n, (b, ((λ _. refl), (where-unsaid s r e k _, ((λ _. refl), (refused-unsaid s r e k _, ((λ z. absurd (omega arith)), λ z. absurd (omega arith))))))))
+    let (n, b) = both (on-none _ _ r e k) refl refl in (
+      n,
+      (
+        b,
+        (
+          (λ _. refl),
+          (where-unsaid s r e k _, ((λ _. refl), (refused-unsaid s r e k _, ((λ z. absurd (omega arith)), ((λ z. absurd (omega arith)), where-unsaid s r e k _))))),
+        ),
+      ),
+    )
 
 pub nd2-sheet-spec : {M : Type 1} → statement M
 nd2-sheet-spec =

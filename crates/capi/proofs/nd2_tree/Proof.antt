@@ -22,13 +22,24 @@ returns c =
     let p = c .before .before in
     let i = p .before .before .before in
     let l = i .before .summary-from in
-    let (number, (buffer, (first, (accepted, (entries, cleared))))) = p .tree .ensures in
+    let (number, (buffer, (first, (accepted, (entries, (cleared, named)))))) = p .tree .ensures in
     let s = i .before .before .before .before .before .before .args .summary .now in
     let r = l .result in
     let e = l .ensures in
     let k = i .if1 .taken in
-    let (n, b) = both (on-some _ _ r e k) number buffer in
-    (n, (b, (cleared, (where-said s r e k _ first, (unsaid s r e k _, (accepted-said s r e k _ _ accepted, λ z. said s r e k _ (entries z)))))))
+    let (n, b) = both (on-some _ _ r e k) number buffer in (
+      n,
+      (
+        b,
+        (
+          cleared,
+          (
+            where-said s r e k _ first,
+            (unsaid s r e k _, (accepted-said s r e k _ _ accepted, ((λ z. said s r e k _ (entries z)), where-said s r e k _ named))),
+          ),
+        ),
+      ),
+    )
 
 clear-requires : tie.Need-clear-requires
 clear-requires c κs = search needs
@@ -47,7 +58,7 @@ returns-2 c =
     let e = l .ensures in
     let k = i .if1 .left in
     let (n, b) = both (on-none _ _ r e k) refl (d .clear .ensures) in
-    (n, (b, ((λ _. d .clear .ensures), (where-unsaid s r e k _, ((λ _. refl), (refused-unsaid s r e k _, λ z. absurd (omega arith)))))))
+    (n, (b, ((λ _. d .clear .ensures), (where-unsaid s r e k _, ((λ _. refl), (refused-unsaid s r e k _, ((λ z. absurd (omega arith)), where-unsaid s r e k _)))))))
 
 pub nd2-tree-spec : {M : Type 1} → statement M
 nd2-tree-spec =

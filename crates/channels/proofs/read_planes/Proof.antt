@@ -2,14 +2,18 @@
 use mathlib.Core.Path.{refl}
 use denote.Ref.{now}
 use lib.ListN.{length}
+use Rattle.format.specs.Bytes.{ascii}
 use Rattle.format.specs.Trees.{roomIn}
 use Rattle.chunk.specs.Answers.{lookupOf}
 use Rattle.named_tree.specs.Named.{treeUnder, Reads}
 use Rattle.tree.specs.declared.Parsed.the-variants.{Entries}
-use Rattle.channels.proofs.Readying.{ready-given, ready-refused, ready-empty, by-given, by-table, by-fault}
+use Rattle.channels.proofs.Readying.{planesName, ready-given, ready-refused, ready-empty, by-given, by-table, by-fault}
 use borrow.Author.Needs.{needs}
 use Rattle.channels.proofs.read_planes.Statement.{statement}
 use Rattle.channels.proofs.read_planes.Tie as tie
+
+slice-aggregate-read-named : tie.Need-slice-aggregate-read-named
+slice-aggregate-read-named c = search needs
 
 read-named-requires : tie.Need-read-named-requires
 read-named-requires c κs = search needs
@@ -24,6 +28,7 @@ same-length : tie.Need-same-length
 same-length c = search needs
 
 returns : tie.Need-returns
+unfolding ascii
 returns c =
     let n = c .before .before .before in
     let h = rw (n .n .given .1) at (n .before .before .before .before .read-named .ensures) in
@@ -38,8 +43,11 @@ enum-known-used c = search needs
 -- the tree that was read
 module _ (c : tie.After-known-told2) where
   whole : let d = c .before .before .before .before .before in
-      let a = d .before .before .before .before .args in
-      Reads (now (a .file)) (d .read-named .last .1 .1 .0) (length (now (a .table))) (treeUnder (now (a .file)) (roomIn (length (now (a .table)))) (lookupOf (a .at))) (Entries (c .before .used .given .0 .0))
+      let a = d .before .before .before .before .before .args in
+      Reads (now (a .file)) (d .read-named .last .1 .1 .1 .0) (length (now (a .table)))
+      (treeUnder (now (a .file)) (roomIn (length (now (a .table)))) planesName (lookupOf (a .at)))
+      (Entries (c .before .used .given .0 .0))
+  unfolding ascii
   whole = rw (c .before .used .given .1) at (c .before .before .before .before .before .read-named .ensures)
 
 planes-in-requires : tie.Need-planes-in-requires
@@ -49,6 +57,7 @@ same-length-2 : tie.Need-same-length-2
 same-length-2 c = search needs
 
 returns-2 : tie.Need-returns-2
+unfolding ascii
 returns-2 c =
     let n = c .before .before .before in
     let h = rw (n .n .given .1) at (n .before .before .before .before .read-named .ensures) in
@@ -66,6 +75,7 @@ pub read-planes-spec : {M : Type 1} → statement M
 read-planes-spec =
     tie.close
     (tie.spec
+    slice-aggregate-read-named
     read-named-requires
     enum-known-n
     without-requires

@@ -8,16 +8,16 @@ use Rattle.chunk.proofs.chunk_data.Statement.{statement}
 use Rattle.chunk.proofs.chunk_data.Tie as tie
 
 returns : tie.Need-returns
-returns c = (cut-head _ _ _ (omega arith), tt)
+returns c = (λ w. cut-head w _ _ _ (omega arith), tt)
 
 returns-2 : tie.Need-returns-2
-returns-2 c = (cut-head _ _ _ (omega arith), tt)
+returns-2 c = (λ w. cut-head w _ _ _ (omega arith), tt)
 
 le4-requires : tie.Need-le4-requires
 le4-requires c κs = search needs
 
 returns-3 : tie.Need-returns-3
-returns-3 c = (wrong-mark _ _ _ (omega arith) (λ e. c .if3 .taken (c .before .le4 .ensures .0 ∙ e)), tt)
+returns-3 c = (λ w. wrong-mark w _ _ _ (omega arith) (λ e. c .if3 .taken (c .before .le4 .ensures .0 ∙ e)), tt)
 
 add-le4 : tie.Need-add-le4
 add-le4 c = search needs
@@ -34,7 +34,7 @@ sub-if4 c = search needs
 returns-4 : tie.Need-returns-4
 returns-4 c =
     let m = c .before .before in
-    (cut-name _ _ _ (omega arith) (sym (m .before .le4 .ensures .0) ∙ m .if3 .left) (c .before .le42 .ensures .0) (omega arith), tt)
+    (λ w. cut-name w _ _ _ (omega arith) (sym (m .before .le4 .ensures .0) ∙ m .if3 .left) (c .before .le42 .ensures .0) (omega arith), tt)
 
 begins-at-requires : tie.Need-begins-at-requires
 begins-at-requires c κs = search needs
@@ -43,7 +43,7 @@ returns-5 : tie.Need-returns-5
 returns-5 c =
     let n = c .before .before .before in
     let m = n .before in
-    (wrong-name _ _ _ (omega arith) (sym (m .before .le4 .ensures .0) ∙ m .if3 .left) (n .le42 .ensures .0) (omega arith) (sym (c .before .begins-at .ensures) ∙ not-true _ (c .if5 .taken)), tt)
+    (λ w. wrong-name w _ _ _ (omega arith) (sym (m .before .le4 .ensures .0) ∙ m .if3 .left) (n .le42 .ensures .0) (omega arith) (sym (c .before .begins-at .ensures) ∙ not-true _ (c .if5 .taken)), tt)
 
 add-le8 : tie.Need-add-le8
 add-le8 c = search needs
@@ -62,14 +62,14 @@ returns-6 c =
     let b = c .before .before in
     let n = b .before .before .before in
     let m = n .before in
-    (cut-data _ _ _ (omega arith) (sym (m .before .le4 .ensures .0) ∙ m .if3 .left) (n .le42 .ensures .0) (omega arith) (sym (b .before .begins-at .ensures) ∙ not-false _ (b .if5 .left)) (c .before .le8 .ensures) (omega arith), tt)
+    (λ w. cut-data w _ _ _ (omega arith) (sym (m .before .le4 .ensures .0) ∙ m .if3 .left) (n .le42 .ensures .0) (omega arith) (sym (b .before .begins-at .ensures) ∙ not-false _ (b .if5 .left)) (c .before .le8 .ensures) (omega arith), tt)
 
 returns-7 : tie.Need-returns-7
 returns-7 c =
     let b = c .before .before in
     let n = b .before .before .before in
     let m = n .before in
-    (whole-chunk _ _ _ (omega arith) (sym (m .before .le4 .ensures .0) ∙ m .if3 .left) (n .le42 .ensures .0) (omega arith) (sym (b .before .begins-at .ensures) ∙ not-false _ (b .if5 .left)) (c .before .le8 .ensures) (omega arith), omega arith)
+    (λ w. whole-chunk w _ _ _ (omega arith) (sym (m .before .le4 .ensures .0) ∙ m .if3 .left) (n .le42 .ensures .0) (omega arith) (sym (b .before .begins-at .ensures) ∙ not-false _ (b .if5 .left)) (c .before .le8 .ensures) (omega arith), omega arith)
 
 pub chunk-data-spec : {M : Type 1} → statement M
 chunk-data-spec =

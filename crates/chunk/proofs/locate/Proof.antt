@@ -2,6 +2,7 @@
 use mathlib.Core.Path.{sym, _∙_}
 use borrow.Author.Tests.{not-true, not-false}
 use Rattle.format.specs.Bytes.{ascii}
+use Rattle.format.specs.Refusals as why
 use Rattle.format.specs.Map.{mapName}
 use Rattle.format.proofs.Maps.{range-short, range-old, range-other, range-bare, range-none, range-chunk}
 use borrow.Author.Needs.{needs}
@@ -71,9 +72,12 @@ returns-6 c =
       range-chunk _ (o .before .before .if1 .left) (λ e. o .if2 .left (f ∙ e)) (sym f ∙ m .if3 .left) (l .if4 .left)
           (sym (e .before .is-end .ensures) ∙ not-false _ (e .if5 .left))
           (d .before .before .le8 .ensures)
-          (rw (c .before .r .given .1) at (d .chunk-data .ensures .0)),
+          (rw (c .before .r .given .1) at (d .chunk-data .ensures .0 why.chunk)),
       rw (c .before .r .given .1) at (d .chunk-data .ensures .1),
     )
+
+enum-told-2 : tie.Need-enum-told-2
+enum-told-2 c = search needs
 
 returns-7 : tie.Need-returns-7
 unfolding mapName ascii
@@ -87,7 +91,23 @@ returns-7 c =
       range-chunk _ (o .before .before .if1 .left) (λ e. o .if2 .left (f ∙ e)) (sym f ∙ m .if3 .left) (l .if4 .left)
           (sym (e .before .is-end .ensures) ∙ not-false _ (e .if5 .left))
           (d .before .before .le8 .ensures)
-          (rw (c .enum-told .given .1) at (d .chunk-data .ensures .0)),
+          (rw (c .enum-told .given .1) at (d .chunk-data .ensures .0 why.chunk)),
+      tt,
+    )
+
+returns-8 : tie.Need-returns-8
+unfolding mapName ascii
+returns-8 c =
+    let d = c .before .before in
+    let e = d .before .before .before in
+    let l = e .before .before in
+    let m = l .before in
+    let o = m .before in
+    let f = o .before .le4 .ensures .0 in (
+      range-chunk _ (o .before .before .if1 .left) (λ e. o .if2 .left (f ∙ e)) (sym f ∙ m .if3 .left) (l .if4 .left)
+          (sym (e .before .is-end .ensures) ∙ not-false _ (e .if5 .left))
+          (d .before .before .le8 .ensures)
+          (rw (c .enum-told2 .given .1) at (d .chunk-data .ensures .0 why.chunk)),
       tt,
     )
 
@@ -108,5 +128,7 @@ locate-spec =
     chunk-data-requires
     enum-known-r
     enum-told
+    enum-told-2
     returns-6
-    returns-7)
+    returns-7
+    returns-8)

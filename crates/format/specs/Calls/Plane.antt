@@ -33,16 +33,17 @@ badFrame u n =
     let rows = u .stride * u .height in
     ltb n 8 || ltb most64 rows || ltb (n - 8) rows
 
--- the frame's data: 20, 21, 22, 5, 23, 4, 24
+-- the frame's data: 20, 21, 22, 5, 23, 4, 29, 4, 24
 unfoldable pub frameOf : List ℕ → Summary → ℕ → ℕ → ℕ → ℕ → Answer Range
 unfolding frameName badIndex badFrame
 frameOf s u scene t c z =
+    let name = frameName (seqIndex (loopsOf u) scene t z) in
     refuseIf (badSummary s u) why.summary
     (refuseIf (badIndex u scene t c z) why.index
     (refuseIf (ltb mostPlaneBytes (planeBytes (shapeOf u))) why.ceiling
     (andThen (mapEntries (mapOf s u)) λ es.
-    andThen (orRefuse (offsetOf (mapOf s u) (frameName (seqIndex (loopsOf u) scene t z)) es) why.noFrame) λ o.
-    andThen (chunkData [] s o) λ r.
+    andThen (orRefuse (offsetOf (mapOf s u) name es) why.noFrame) λ o.
+    andThen (chunkData why.chunkName name s o) λ r.
     refuseIf (badFrame u (r .len)) why.frameShort
     (given r))))
 

@@ -16,7 +16,7 @@ use Rattle.format.specs.declared.Summary.{Summary}
 
 -- ---- writing
 
--- the frame whose samples are written: 20, 21, 22, 5, 23, 4, 24, 26, 25; `room` is the length of the lent sheet
+-- the frame whose samples are written: 20, 21, 22, 5, 23, 4, 29, 4, 24, 26, 25; `room` is the length of the lent sheet
 unfoldable pub sheetFor : List ℕ → Summary → ℕ → ℕ → ℕ → ℕ → ℕ → Answer Range
 unfolding frameOf
 sheetFor s u scene t c z room =

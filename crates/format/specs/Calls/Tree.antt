@@ -12,7 +12,7 @@ use Rattle.format.specs.Calls.Plane.{Outcome}
 use Rattle.format.specs.declared.Entry.{Entry}
 use Rattle.format.specs.declared.Summary.{Summary}
 
--- the entries, with a table of `room` entries: 20, 5, 11, 4, tree
+-- the entries, with a table of `room` entries: 20, 5, 11, 4, 29, 4, tree
 unfoldable pub treeNamed : List ℕ → Summary → List ℕ → ℕ → Answer (List Entry)
 treeNamed s u name room =
     refuseIf (badSummary s u) why.summary

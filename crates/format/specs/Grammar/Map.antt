@@ -44,8 +44,8 @@ pub record Mapped (s : List ℕ) (r : Range) (es : List MapEntry) : Type 0 where
   pub map-chunk : Chunk mapName s (leAt 8 s (length s - 8)) r
   pub map-of : MapOf (dataIn s r) es
 
--- the map m has a chunk under this name, whose data is r
+-- the map m has a chunk under this name, which that chunk bears itself, and its data is r (change request 6)
 pub record Named (s m : List ℕ) (es : List MapEntry) (name : List ℕ) (r : Range) : Type 0 where
   pub offset : ℕ
   pub listed : Listed m name es offset
-  pub chunk : Chunk [] s offset r
+  pub chunk : Chunk name s offset r

@@ -5,14 +5,14 @@ use lib.ListN.{length}
 use Rattle.format.specs.Trees.{roomIn}
 use Rattle.format.specs.Grammar.File.{Joined}
 use Rattle.format.specs.Refused.Order.{FirstAt}
-use Rattle.format.specs.Refused.Plane.{PlaneRefusal, planeOrder}
+use Rattle.format.specs.Refused.Plane.{PlaneStage, PlaneRefusal, planeOrder}
 use Rattle.format.specs.Refused.Open.{Stage, openOrder, OpenRefusal}
 use Rattle.format.specs.declared.Summary.{Summary}
 
--- a stage of opening, or a plane's refusal of this number
+-- a stage of opening, or one of a plane
 pub data BorderStage : Type 0 where
   opening : Stage → BorderStage
-  reading : ℕ → BorderStage
+  reading : PlaneStage → BorderStage
 
 abbrev pub borderOrder : List BorderStage
 borderOrder = map opening openOrder ++ map reading planeOrder
@@ -20,7 +20,8 @@ borderOrder = map opening openOrder ++ map reading planeOrder
 -- when each stage refuses; the table has `room` whole entries, and buf is the buffer that is lent for the samples
 pub data BorderRefusal (s : List ℕ) (room scene t c z : ℕ) (buf : List ℕ) : BorderStage → ℕ → Type 0 where
   open-refused : {a : Stage} {n : ℕ} → OpenRefusal s room a n → BorderRefusal s room scene t c z buf (opening a) n
-  plane-refused : {u : Summary} {n : ℕ} → Joined s u → PlaneRefusal s u scene t c z buf n → BorderRefusal s room scene t c z buf (reading n) n
+  plane-refused : {u : Summary} {a : PlaneStage} {n : ℕ} → Joined s u → PlaneRefusal s u scene t c z buf a n
+      → BorderRefusal s room scene t c z buf (reading a) n
 
 -- n is what the first stage that refuses gives, and 0 where none refuses; `table` is the table that is lent
 abbrev pub BorderFirst : List ℕ → List ℕ → ℕ → ℕ → ℕ → ℕ → List ℕ → ℕ → Type 0

@@ -1,8 +1,8 @@
--- Opening, by stages, since 4, 11, 14, 15, 18 and a tree's faults come more than once: when each of them refuses, and with which number. Of the
+-- Opening, by stages, since 4, 11, 14, 15, 18, 29 and a tree's faults come more than once: when each of them refuses, and with which number. Of the
 -- calibration, which is read last, only a full table refuses. s is the file, and the table has `room` whole entries.
 use Prim.Native.Nat.{ℕ, _-_, _≤_, _<_}
 use mathlib.Core.Path.{_≡_}
-use mathlib.Core.List.{List, [], _∷_, reverse}
+use mathlib.Core.List.{List, [], _∷_, _++_, map as each, reverse}
 use lib.ListN.{length}
 use lib.IntN.{pos}
 use Rattle.format.specs.Bytes.{leAt, part, ascii, most64}
@@ -18,6 +18,7 @@ use Rattle.format.specs.Grammar.Values.{Field}
 use Rattle.format.specs.Grammar.Numbers.{Signed}
 use Rattle.format.specs.Grammar.Attributes.{Bits, Shape, Sized}
 use Rattle.format.specs.Grammar.Loops.{Walks}
+use Rattle.format.specs.Refused.Chunk.{ChunkStage, chunkOrder, ChunkRefusal}
 use Rattle.format.specs.Refused.Loops.{WalkFaults, Misjudged}
 use Rattle.format.specs.Refusals as why
 use Rattle.format.specs.declared.Range.{Range}
@@ -42,7 +43,7 @@ pub data Stage : Type 0 where
   map-chunk : Stage
   map : Stage
   entry : Needed → Stage
-  chunk : Needed → Stage
+  chunk : Needed → ChunkStage → Stage
   table : Needed → Stage
   fault : Needed → Stage
   sizes : Stage
@@ -60,8 +61,8 @@ pub data Stage : Type 0 where
 abbrev pub openOrder : List Stage
 openOrder =
     first-mark ∷ tail ∷ map-chunk ∷ map
-    ∷ entry attributes ∷ chunk attributes ∷ table attributes ∷ fault attributes ∷ sizes ∷ compression ∷ bits ∷ shape
-    ∷ entry experiment ∷ chunk experiment ∷ table experiment ∷ fault experiment ∷ experiment-level ∷ walk ∷ judged
+    ∷ entry attributes ∷ each (chunk attributes) chunkOrder ++ table attributes ∷ fault attributes ∷ sizes ∷ compression ∷ bits ∷ shape
+    ∷ entry experiment ∷ each (chunk experiment) chunkOrder ++ table experiment ∷ fault experiment ∷ experiment-level ∷ walk ∷ judged
     ∷ plane ∷ calibration ∷ []
 
 -- ---- what is there, stage by stage
@@ -114,11 +115,11 @@ pub data OpenRefusal (s : List ℕ) (room : ℕ) : Stage → ℕ → Type 0 wher
   -- the map chunk breaks a chunk's rule, or its data the map's
   no-map-chunk : ((r : Range) → MapChunk s r → ⊥) → OpenRefusal s room map-chunk why.chunk
   no-map : {r : Range} → MapChunk s r → ((es : List MapEntry) → MapOf (dataIn s r) es → ⊥) → OpenRefusal s room map why.map
-  -- a needed chunk: no entry in the map, no chunk there, more records than the table has entries, a fault of its tree
+  -- a needed chunk: no entry in the map, no chunk of that name there, more records than the table has entries, a fault of its tree
   no-entry : {w : Needed} {r : Range} {es : List MapEntry} → Mapped s r es → ((o : ℕ) → Listed (dataIn s r) (needed w) es o → ⊥)
       → OpenRefusal s room (entry w) why.missing
-  no-chunk : {w : Needed} {r : Range} {es : List MapEntry} {o : ℕ} → Mapped s r es → Listed (dataIn s r) (needed w) es o
-      → ((q : Range) → Chunk [] s o q → ⊥) → OpenRefusal s room (chunk w) why.chunk
+  no-chunk : {w : Needed} {r : Range} {es : List MapEntry} {o : ℕ} {a : ChunkStage} {n : ℕ} → Mapped s r es → Listed (dataIn s r) (needed w) es o
+      → ChunkRefusal (needed w) s o a n → OpenRefusal s room (chunk w a) n
   table-short : {w : Needed} → TooMany s (needed w) room → OpenRefusal s room (table w) why.table
   tree-fault : {w : Needed} {r : Range} {n : ℕ} → ChunkAt s (needed w) r → Faulty s r n → OpenRefusal s room (fault w) n
   -- the attributes: no level or one of its five numbers absent, eCompression, bits, shape

@@ -1,7 +1,7 @@
--- The plane call: "20, 21, 22, 5, 23, 4, 24, 25".
+-- The plane call: "20, 21, 22, 5, 23, 4, 24, 25", and 29 with 4 before and behind it (change request 6); so by stages.
 use Prim.Native.Nat.{ℕ, _+_, _-_, _*_, _≤_, _<_}
 use mathlib.Core.Path.{_≡_}
-use mathlib.Core.List.{List, [], _∷_, _++_}
+use mathlib.Core.List.{List, [], _∷_, _++_, map as each}
 use lib.ListN.{length, getD}
 use Rattle.format.specs.Bytes.{most64}
 use Rattle.format.specs.Map.{MapEntry}
@@ -12,6 +12,7 @@ use Rattle.format.specs.Grammar.Chunks.{Chunk}
 use Rattle.format.specs.Grammar.Map.{MapOf, Listed}
 use Rattle.format.specs.Grammar.Frames.{FrameName}
 use Rattle.format.specs.Refused.Summary.{Sound}
+use Rattle.format.specs.Refused.Chunk.{ChunkStage, chunkOrder, ChunkRefusal}
 use Rattle.format.specs.Refusals as why
 use Rattle.format.specs.declared.Range.{Range}
 use Rattle.format.specs.declared.Axis.the-variants.{T, Z, P}
@@ -32,11 +33,11 @@ pub record FrameEntry (s : List ℕ) (u : Summary) (n o : ℕ) : Type 0 where
   pub name-of : FrameName n name
   pub listed : Listed (mapOf s u) name entries o
 
--- the chunk there has the data r
+-- the chunk there bears the frame's name, and has the data r
 pub record FrameData (s : List ℕ) (u : Summary) (n : ℕ) (r : Range) : Type 0 where
   pub offset : ℕ
   pub entry : FrameEntry s u n offset
-  pub chunk : Chunk [] s offset r
+  pub chunk : Chunk (entry .name) s offset r
 
 -- the data is long enough: not "under 8 bytes, row bytes × height past 2^64 − 1 or more than what follows the prefix"
 pub record FrameLong (u : Summary) (r : Range) : Type 0 where
@@ -44,26 +45,44 @@ pub record FrameLong (u : Summary) (r : Range) : Type 0 where
   pub product : u .stride * u .height ≤ most64
   pub rows : u .stride * u .height ≤ r .len - 8
 
--- when each refusal of a point's frame holds, whatever its samples are for
-pub data FrameRefusal (s : List ℕ) (u : Summary) (scene t c z : ℕ) : ℕ → Type 0 where
-  summary : (Sound s u → ⊥) → FrameRefusal s u scene t c z why.summary
-  index : (Within (loopsOf u) scene t z → c < u .components → ⊥) → FrameRefusal s u scene t c z why.index
-  ceiling : 4_294_967_296 < planeBytes (shapeOf u) → FrameRefusal s u scene t c z why.ceiling
-  map : ((es : List MapEntry) → MapOf (mapOf s u) es → ⊥) → FrameRefusal s u scene t c z why.map
-  no-frame : ((o : ℕ) → FrameEntry s u (seqIndex (loopsOf u) scene t z) o → ⊥) → FrameRefusal s u scene t c z why.noFrame
-  chunk : ((r : Range) → FrameData s u (seqIndex (loopsOf u) scene t z) r → ⊥) → FrameRefusal s u scene t c z why.chunk
-  frame-short : ((r : Range) → FrameData s u (seqIndex (loopsOf u) scene t z) r → FrameLong u r → ⊥) → FrameRefusal s u scene t c z why.frameShort
+-- ---- the frame of a point, whatever its samples are for
 
-abbrev pub frameOrder : List ℕ
-frameOrder = why.summary ∷ why.index ∷ why.ceiling ∷ why.map ∷ why.noFrame ∷ why.chunk ∷ why.frameShort ∷ []
+pub data FrameStage : Type 0 where
+  summary : FrameStage
+  index : FrameStage
+  ceiling : FrameStage
+  map : FrameStage
+  entry : FrameStage
+  chunk : ChunkStage → FrameStage
+  rows : FrameStage
 
--- when each refusal of a plane holds; buf is the buffer that is lent for the samples
-pub data PlaneRefusal (s : List ℕ) (u : Summary) (scene t c z : ℕ) (buf : List ℕ) : ℕ → Type 0 where
-  frame : {n : ℕ} → FrameRefusal s u scene t c z n → PlaneRefusal s u scene t c z buf n
-  buffer : length buf < planeBytes (shapeOf u) → PlaneRefusal s u scene t c z buf why.buffer
+abbrev pub frameOrder : List FrameStage
+frameOrder = summary ∷ index ∷ ceiling ∷ map ∷ entry ∷ each chunk chunkOrder ++ rows ∷ []
 
-abbrev pub planeOrder : List ℕ
-planeOrder = frameOrder ++ why.buffer ∷ []
+-- when each stage refuses
+pub data FrameRefusal (s : List ℕ) (u : Summary) (scene t c z : ℕ) : FrameStage → ℕ → Type 0 where
+  unsound : (Sound s u → ⊥) → FrameRefusal s u scene t c z summary why.summary
+  out-of-range : (Within (loopsOf u) scene t z → c < u .components → ⊥) → FrameRefusal s u scene t c z index why.index
+  too-large : 4_294_967_296 < planeBytes (shapeOf u) → FrameRefusal s u scene t c z ceiling why.ceiling
+  no-map : ((es : List MapEntry) → MapOf (mapOf s u) es → ⊥) → FrameRefusal s u scene t c z map why.map
+  no-frame : ((o : ℕ) → FrameEntry s u (seqIndex (loopsOf u) scene t z) o → ⊥) → FrameRefusal s u scene t c z entry why.noFrame
+  no-chunk : {o n : ℕ} {a : ChunkStage} (e : FrameEntry s u (seqIndex (loopsOf u) scene t z) o) → ChunkRefusal (e .name) s o a n
+      → FrameRefusal s u scene t c z (chunk a) n
+  frame-short : {r : Range} → FrameData s u (seqIndex (loopsOf u) scene t z) r → (FrameLong u r → ⊥) → FrameRefusal s u scene t c z rows why.frameShort
+
+-- ---- the plane
+
+pub data PlaneStage : Type 0 where
+  frame : FrameStage → PlaneStage
+  buffer : PlaneStage
+
+abbrev pub planeOrder : List PlaneStage
+planeOrder = each frame frameOrder ++ buffer ∷ []
+
+-- when each stage refuses; buf is the buffer that is lent for the samples
+pub data PlaneRefusal (s : List ℕ) (u : Summary) (scene t c z : ℕ) (buf : List ℕ) : PlaneStage → ℕ → Type 0 where
+  frame-refused : {a : FrameStage} {n : ℕ} → FrameRefusal s u scene t c z a n → PlaneRefusal s u scene t c z buf (frame a) n
+  buffer-short : length buf < planeBytes (shapeOf u) → PlaneRefusal s u scene t c z buf buffer why.buffer
 
 -- `out` is what an accepted plane of component c leaves in `buf`; chunk is the data of the frame's chunk. Sample y × width + x is, byte for byte, the one that
 -- begins 8 + y × row bytes + (x × components + c) × sample bytes into that data; the bytes behind the samples are as they were.

@@ -23,6 +23,14 @@ pub record Sound (s : List ℕ) (u : Summary) : Type 0 where
   pub loops-distinct : Distinct (loopsOf u)
   pub map-within : u .map .start + u .map .len ≤ length s
 
+-- nothing is stated of the calibration, z and its class neither
+pub record Uncalibrated (u : Summary) : Type 0 where
+  pub calibration : u .calibration ≡ 0
+  pub x : u .x ≡ zeroFloat
+  pub y : u .y ≡ zeroFloat
+  pub class : u .class ≡ 0
+  pub z : u .z ≡ zeroFloat
+
 -- a summary of zeros, as a refused opening returns: the three places for loops are not used, with the axis T and the count 0
 pub record Blank (u : Summary) : Type 0 where
   pub loops : u .loops ≡ replicate 3 (record { axis = T; count = 0 })
@@ -34,8 +42,4 @@ pub record Blank (u : Summary) : Type 0 where
   pub bits : u .bits ≡ 0
   pub map-start : u .map .start ≡ 0
   pub map-len : u .map .len ≡ 0
-  pub calibration : u .calibration ≡ 0
-  pub x : u .x ≡ zeroFloat
-  pub y : u .y ≡ zeroFloat
-  pub class : u .class ≡ 0
-  pub z : u .z ≡ zeroFloat
+  pub uncalibrated : Uncalibrated u

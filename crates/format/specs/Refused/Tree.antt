@@ -1,8 +1,9 @@
--- The tree call: "20, 5, 11, 4, tree". Of a tree's own refusals 18 comes before a later fault, and of the others a tree has at most one.
+-- The tree call: "20, 5, 11, 4, tree", and 29 with 4 before and behind it (change request 6); so by stages. Of a tree's own refusals 18 comes before a later
+-- fault, and of the others a tree has at most one.
 use Prim.Native.Nat.{ℕ, _+_, _*_, _%_, _^_, _≤_, _<_}
 use mathlib.Core.Path.{_≡_}
 use mathlib.Core.Option.{some}
-use mathlib.Core.List.{List, [], _∷_}
+use mathlib.Core.List.{List, [], _∷_, _++_, map as each}
 use lib.ListN.{length, getD, getElem?}
 use Rattle.format.specs.Bytes.{leAt}
 use Rattle.format.specs.Map.{MapEntry}
@@ -11,6 +12,7 @@ use Rattle.format.specs.Grammar.Chunks.{Chunk}
 use Rattle.format.specs.Grammar.Map.{MapOf, Listed}
 use Rattle.format.specs.Grammar.Trees.{Faulty, PassedIn}
 use Rattle.format.specs.Refused.Summary.{Sound}
+use Rattle.format.specs.Refused.Chunk.{ChunkStage, chunkOrder, ChunkRefusal}
 use Rattle.format.specs.Refusals as why
 use Rattle.format.specs.declared.Range.{Range}
 use Rattle.format.specs.declared.Entry.{Entry}
@@ -22,11 +24,11 @@ pub record NameEntry (s : List ℕ) (u : Summary) (name : List ℕ) (o : ℕ) : 
   pub map-of : MapOf (mapOf s u) entries
   pub listed : Listed (mapOf s u) name entries o
 
--- the chunk there has the data r
+-- the chunk there bears that name, and has the data r
 pub record NameData (s : List ℕ) (u : Summary) (name : List ℕ) (r : Range) : Type 0 where
   pub offset : ℕ
   pub entry : NameEntry s u name offset
-  pub chunk : Chunk [] s offset r
+  pub chunk : Chunk name s offset r
 
 -- "a record needs an entry and none is left": more than `room` records of the tree under this name pass
 pub record TableShort (s : List ℕ) (u : Summary) (name : List ℕ) (room : ℕ) : Type 0 where
@@ -36,18 +38,25 @@ pub record TableShort (s : List ℕ) (u : Summary) (name : List ℕ) (room : ℕ
   pub passed : PassedIn s place count
   pub too-many : room < count
 
--- when each refusal of a tree holds; the table has `room` whole entries
-pub data TreeRefusal (s : List ℕ) (u : Summary) (name : List ℕ) (room : ℕ) : ℕ → Type 0 where
-  summary : (Sound s u → ⊥) → TreeRefusal s u name room why.summary
-  map : ((es : List MapEntry) → MapOf (mapOf s u) es → ⊥) → TreeRefusal s u name room why.map
-  missing : ((o : ℕ) → NameEntry s u name o → ⊥) → TreeRefusal s u name room why.missing
-  chunk : ((r : Range) → NameData s u name r → ⊥) → TreeRefusal s u name room why.chunk
-  table : TableShort s u name room → TreeRefusal s u name room why.table
-  fault : {r : Range} {n : ℕ} → NameData s u name r → Faulty s r n → TreeRefusal s u name room n
+pub data TreeStage : Type 0 where
+  summary : TreeStage
+  map : TreeStage
+  entry : TreeStage
+  chunk : ChunkStage → TreeStage
+  table : TreeStage
+  fault : TreeStage
 
-abbrev pub treeOrder : List ℕ
-treeOrder =
-    why.summary ∷ why.map ∷ why.missing ∷ why.chunk ∷ why.table ∷ why.cut ∷ why.kind ∷ why.packed ∷ why.deep ∷ why.level ∷ []
+abbrev pub treeOrder : List TreeStage
+treeOrder = summary ∷ map ∷ entry ∷ each chunk chunkOrder ++ table ∷ fault ∷ []
+
+-- when each stage refuses; the table has `room` whole entries
+pub data TreeRefusal (s : List ℕ) (u : Summary) (name : List ℕ) (room : ℕ) : TreeStage → ℕ → Type 0 where
+  unsound : (Sound s u → ⊥) → TreeRefusal s u name room summary why.summary
+  no-map : ((es : List MapEntry) → MapOf (mapOf s u) es → ⊥) → TreeRefusal s u name room map why.map
+  no-entry : ((o : ℕ) → NameEntry s u name o → ⊥) → TreeRefusal s u name room entry why.missing
+  no-chunk : {o n : ℕ} {a : ChunkStage} → NameEntry s u name o → ChunkRefusal name s o a n → TreeRefusal s u name room (chunk a) n
+  table-short : TableShort s u name room → TreeRefusal s u name room table why.table
+  tree-fault : {r : Range} {n : ℕ} → NameData s u name r → Faulty s r n → TreeRefusal s u name room fault n
 
 -- The entry e stands in the table from i on, each of its six numbers in eight bytes. No file has 2^64 bytes, so that the remainder is the number itself.
 pub record EntryAt (table : List ℕ) (i : ℕ) (e : Entry) : Type 0 where

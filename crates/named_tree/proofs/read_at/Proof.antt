@@ -3,13 +3,11 @@ use mathlib.Core.Path.{ap, _∙_}
 use native.Mathlib.Omega.{arith}
 use lib.ListN.{length}
 use Rattle.format.proofs.Bytes.{part-length}
+use Rattle.format.specs.Refusals as why
 use Rattle.named_tree.proofs.Answers.{refused-reads, no-chunk, chunk-reads}
 use borrow.Author.Needs.{needs}
 use Rattle.named_tree.proofs.read_at.Statement.{statement}
 use Rattle.named_tree.proofs.read_at.Tie as tie
-
-slice-aggregate-chunk-data : tie.Need-slice-aggregate-chunk-data
-slice-aggregate-chunk-data c = search needs
 
 chunk-data-requires : tie.Need-chunk-data-requires
 chunk-data-requires c κs = search needs
@@ -19,6 +17,12 @@ enum-told c = search needs
 
 refuse-requires : tie.Need-refuse-requires
 refuse-requires c κs = search needs
+
+enum-told-2 : tie.Need-enum-told-2
+enum-told-2 c = search needs
+
+refuse-requires-2 : tie.Need-refuse-requires-2
+refuse-requires-2 c κs = search needs
 
 enum-known-r : tie.Need-enum-known-r
 enum-known-r c = search needs
@@ -39,31 +43,43 @@ returns : tie.Need-returns
 returns c =
     let z = c .before .before .refuse .ensures in
     let e = c .before .before .before .before in
-    refused-reads (no-chunk _ _ _ (rw (e .enum-told .given .1) at (e .before .before .chunk-data .ensures .0))) (z .0) (z .1)
+    refused-reads (no-chunk _ _ _ _ (rw (e .enum-told .given .1) at (e .before .before .chunk-data .ensures .0 why.chunkName))) (z .0) (z .1)
 
 same-length-2 : tie.Need-same-length-2
 same-length-2 c = search needs
 
 returns-2 : tie.Need-returns-2
 returns-2 c =
+    let z = c .before .before .refuse2 .ensures in
+    let e = c .before .before .before .before in
+    refused-reads (no-chunk _ _ _ _ (rw (e .enum-told2 .given .1) at (e .before .before .chunk-data .ensures .0 why.chunkName))) (z .0) (z .1)
+
+same-length-3 : tie.Need-same-length-3
+same-length-3 c = search needs
+
+returns-3 : tie.Need-returns-3
+returns-3 c =
     let p = c .before .before .parse-clx-variant in
     let d = c .before .before .before .before in
     let r = d .before .before .r .given .1 in
     let e = d .before .before .before .before .chunk-data .ensures in
-    chunk-reads _ _ _ (search needs) (rw r at (e .1)) (rw r at (e .0)) (d .data-of .ensures) (p .ensures .0) (p .ensures .1 .0)
+    chunk-reads _ _ _ _ (search needs) (rw r at (e .1)) (rw r at (e .0 why.chunkName)) (d .data-of .ensures) (p .ensures .0) (p .ensures .1 .0)
 
 pub read-at-spec : {M : Type 1} → statement M
 read-at-spec =
     tie.close
     (tie.spec
-    slice-aggregate-chunk-data
     chunk-data-requires
     enum-told
     refuse-requires
+    enum-told-2
+    refuse-requires-2
     enum-known-r
     data-of-requires
     parse-clx-variant-requires
     same-length
     returns
     same-length-2
-    returns-2)
+    returns-2
+    same-length-3
+    returns-3)

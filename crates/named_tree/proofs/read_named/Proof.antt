@@ -34,7 +34,7 @@ same-length-2 c = search needs
 returns-2 : tie.Need-returns-2
 returns-2 c =
     let z = c .before .before .refuse .ensures in
-    rw (c .before .before .before .before .enum-told .given .1) (refused-reads (under-absent _ _) (z .0) (z .1))
+    rw (c .before .before .before .before .enum-told .given .1) (refused-reads (under-absent _ _ _) (z .0) (z .1))
 
 same-length-3 : tie.Need-same-length-3
 same-length-3 c = search needs
@@ -42,7 +42,7 @@ same-length-3 c = search needs
 returns-3 : tie.Need-returns-3
 returns-3 c =
     let z = c .before .before .refuse2 .ensures in
-    rw (c .before .before .before .before .enum-told2 .given .1) (refused-reads (under-refused _ _ _) (z .0) (z .1))
+    rw (c .before .before .before .before .enum-told2 .given .1) (refused-reads (under-refused _ _ _ _) (z .0) (z .1))
 
 pub read-named-spec : {M : Type 1} → statement M
 read-named-spec =

@@ -1,8 +1,8 @@
 -- `after_map`: the attributes' refusal, or what follows them.
 use mathlib.Core.Path.{refl, sym}
-use Rattle.format.proofs.Answers.{go-on}
+use Rattle.format.proofs.Answers.{go-on, stops}
 use Rattle.open.specs.Parts.{afterMap}
-use Rattle.open.proofs.Saying.{stops, says-as}
+use Rattle.open.proofs.Saying.{says-as}
 use borrow.Author.Needs.{needs}
 use Rattle.open.proofs.after_map.Statement.{statement}
 use Rattle.open.proofs.after_map.Tie as tie

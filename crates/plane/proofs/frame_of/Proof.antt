@@ -1,6 +1,7 @@
 -- `frame_of`: one law for each way out.
 use mathlib.Core.Path.{_≡_, sym, ap, ap₂, _∙_}
 use mathlib.Core.Bool.{false}
+use Prim.Native.Nat.{ℕ}
 use borrow.Author.Needs.{needs}
 use denote.Ref.{now}
 use Rattle.format.specs.Frames.{seqIndex, frameName}
@@ -9,6 +10,7 @@ use Rattle.format.specs.Calls.Plane.{badIndex}
 use Rattle.format.proofs.Summaries.{sound-read}
 use Rattle.format.proofs.Planes.{index-read}
 use Rattle.chunk.specs.Answers.{lookupOf, findIn}
+use Rattle.plane.specs.Found.{foundAt}
 use Rattle.plane.proofs.Finding.{bad-summary, bad-index, too-large, no-map, no-frame, at-offset}
 use Rattle.plane.proofs.frame_of.Statement.{statement}
 use Rattle.plane.proofs.frame_of.Tie as tie
@@ -92,8 +94,10 @@ returns-4 c =
     let d = l .before .before .before in
     let b = d .before .before in
     let a = b .before .before .before .args in
+    let o = c .before .before .o .given .0 .0 in
     c .frame-data .ensures
-    ∙ at-offset (now (a .file)) (a .u) (a .scene) (a .t) (a .c) (a .z) (passed b) (within d) (sym (l .before .product-over .ensures) ∙ l .if3 .left) _
+    ∙ ap (λ (n : ℕ). foundAt (now (a .file)) (a .u) (frameName n) o) (f .before .seq-index .ensures)
+    ∙ at-offset (now (a .file)) (a .u) (a .scene) (a .t) (a .c) (a .z) (passed b) (within d) (sym (l .before .product-over .ensures) ∙ l .if3 .left) o
     (rw (c .before .before .o .given .1) at (looked f))
 
 returns-5 : tie.Need-returns-5

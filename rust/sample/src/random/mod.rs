@@ -9,6 +9,7 @@ mod numbers;
 mod trees;
 
 use crate::file::{Nd2, LEGACY};
+use crate::misnamed;
 use crate::parts::{self, Sizes};
 use crate::rng::Rng;
 use crate::tree::Record;
@@ -56,9 +57,11 @@ fn scrap(rng: &mut Rng) -> Vec<u8> {
     bytes
 }
 
-/// All parts of a file, each at random. What becomes of its doubles is drawn aside, so that nothing else moves by it.
+/// All parts of a file, each at random. What becomes of its doubles and of its chunks' names is drawn aside, so that nothing
+/// else moves by it.
 fn assembled(rng: &mut Rng, care: Care) -> Vec<u8> {
     let aside = &mut rng.aside();
+    let names = &mut aside.aside();
     let doubles = doubles::random(aside);
     let (sizes, trees) = trees_of(rng, care);
     let mut file = Nd2::new();
@@ -74,6 +77,7 @@ fn assembled(rng: &mut Rng, care: Care) -> Vec<u8> {
         file.add(name, &data);
     }
     frames(rng, care, sizes, &mut file);
+    misnamed::random(names, &mut file);
     finished(rng, care, file)
 }
 

@@ -1,10 +1,7 @@
 -- The name that is looked up is the array from `from` on.
-use Prim.Native.Nat.{_-_}
 use mathlib.Core.Path.{ap, _∙_}
-use native.Mathlib.Omega.{arith}
-use lib.ListN.{drop, length-drop}
-use lib.Seq.{take-all}
 use Rattle.chunk.specs.Answers.{findIn}
+use Rattle.chunk.proofs.Decimal.{name-part}
 use borrow.Author.Needs.{needs}
 use Rattle.chunk.proofs.frame.frame_at.Statement.{statement}
 use Rattle.chunk.proofs.frame.frame_at.Tie as tie
@@ -27,9 +24,7 @@ look-up-requires c κs = search needs
 returns : tie.Need-returns
 returns c =
     let f = c .before .before .before .before .frame-name in
-    let a = f .result in
-    let n = take-all (40 - a .from) (drop (a .from) (a .name)) (omega (arith, length-drop (a .from) (a .name), f .ensures .size)) in
-    c .look-up .ensures ∙ ap (findIn _) (n ∙ f .ensures .tail)
+    c .look-up .ensures ∙ ap (findIn _) (name-part _ (f .result) (f .ensures))
 
 pub frame-at-spec : {M : Type 1} → statement M
 frame-at-spec =
