@@ -211,7 +211,7 @@ wholeTree (fault n) es = refused n
 abbrev pub treeEntries : Read → Answer (List Entry)
 treeEntries r = wholeTree (r .stop) (r .entries)
 
--- the tree of a named chunk, read into a table of `room` entries: 11, 4, tree
+-- the tree of a named chunk, read into a table of `room` entries: 11, 4, 29, 4, tree
 unfoldable pub namedTree : List ℕ → List ℕ → List MapEntry → ℕ → List ℕ → Answer (List Entry)
 unfolding namedChunk wholeTree
 namedTree s m es room name = andThen (namedChunk s m es name) λ r. treeEntries (within room (treeIn s r))
