@@ -28,7 +28,7 @@ use Rattle.format.proofs.PicometresCalls.{picometres-number, picometres
 use Rattle.format.proofs.PicometresCalls.{picometres-size, size-once}
 use Rattle.format.proofs.OpenedSize.{opened-size}
 use Rattle.format.proofs.Named.{tree-means}
-use Rattle.format.proofs.Absent.{counts-as-absent, open-whole, open-typed}
+use Rattle.format.proofs.Unstated.{counts-as-absent, open-whole, open-typed}
 use Rattle.format.proofs.Stages.{decides-first}
 use Rattle.format.proofs.Chunks.{chunk-decides, longer-passes}
 use Rattle.format.proofs.Names.{begins-once}
