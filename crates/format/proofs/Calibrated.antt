@@ -115,9 +115,12 @@ class-is z c y (used {x = x} h p q) = rw (read-distance (narrow x) h, p, q) (ref
 
 -- ---- what calibration gives
 
+abbrev pub calibrationName : List ℕ
+calibrationName = ascii "ImageCalibrationLV|0!"
+
 module _ (s m : List ℕ) (es : List MapEntry) (room : ℕ) (z : Option Float) where
   abbrev name : List ℕ
-  name = ascii "ImageCalibrationLV|0!"
+  name = calibrationName
 
   -- what opening makes of a tree of the calibration
   size-tree : (r : Range) (size : Calibration) → Named s m es name r → calibrationBy s (zFloat z) (treeEntries (within room (treeIn s r))) ≡ given size

@@ -24,7 +24,7 @@ use Rattle.format.proofs.Entries.{frame-entry, entry-frame, read-entry,
 use Rattle.format.proofs.Planes.{index-read, read-index, Found, plane-found}
 use Rattle.format.proofs.TreeCalls.{tree-decides, says-29}
 use Rattle.format.proofs.ChannelCalls.{planesName}
-use Rattle.format.proofs.PicometresCalls.{calibrationName}
+use Rattle.format.proofs.Calibrated.{calibrationName}
 use Rattle.format.proofs.OpenNumbers.{open-astray}
 use Rattle.format.proofs.Demands.{first, third}
 use Rattle.format.specs.Answer.{Answer, refused, given, refuseIf, orRefuse, numberOf}

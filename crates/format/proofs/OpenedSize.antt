@@ -15,7 +15,8 @@ use Rattle.format.proofs.Sounds.{joined-sound}
 use Rattle.format.proofs.Files.{opened-iff-joined, opened-by}
 use Rattle.format.proofs.Demands.{opened-given}
 use Rattle.format.proofs.TreeCalls.{tree-staged, never-28, named-decides, named-whole}
-use Rattle.format.proofs.PicometresCalls.{calibrationName, means, size-found}
+use Rattle.format.proofs.Calibrated.{calibrationName}
+use Rattle.format.proofs.PicometresCalls.{means, size-found}
 use Rattle.format.proofs.Picometres.{sizeOf}
 use Rattle.format.specs.Answer.{Answer, refused, given, refuseIf, andThen, orRefuse, numberOf}
 use Rattle.format.specs.Chunks.{dataIn}

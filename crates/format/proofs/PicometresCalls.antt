@@ -15,6 +15,7 @@ use Rattle.format.proofs.Means.{Means}
 use Rattle.format.proofs.Fields.{field-in, level-at}
 use Rattle.format.proofs.Named.{tree-means}
 use Rattle.format.proofs.Entries.{tree-once}
+use Rattle.format.proofs.Calibrated.{calibrationName}
 use Rattle.format.proofs.Lists.{in-left, in-right, in-map}
 use Rattle.format.proofs.Stages.{DecidesAt, stage-one, decides-then, decides-first, decides-numbered, decides-map, accepted-at, first-once}
 use Rattle.format.proofs.TreeCalls.{tree-staged, tree-stage-once, tree-decides, tree-whole}
@@ -79,9 +80,6 @@ module _ (s : List ℕ) (es : List Entry) (M : Means s es) where
   found-size v x z e = pixel-is ∙ ap (λ (o : Option Value). aboveZero (bind o float)) (value-in .only v z) ∙ (unfold bind in e)
 
 -- ---- the stages
-
-abbrev pub calibrationName : List ℕ
-calibrationName = ascii "ImageCalibrationLV|0!"
 
 module _ (s : List ℕ) (u : Summary) where
   pub means : {es : List Entry} → CalibrationTree s u es → Means s es

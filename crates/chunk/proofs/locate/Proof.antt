@@ -1,9 +1,15 @@
 -- Each test in turn, by the law of the map's place that it fails or passes.
-use mathlib.Core.Path.{sym, _∙_}
+use Prim.Native.Nat.{ℕ}
+use mathlib.Core.Path.{_≡_, sym, _∙_}
+use mathlib.Core.List.{List}
+use denote.Ref.{now}
 use borrow.Author.Tests.{not-true, not-false}
 use Rattle.format.specs.Bytes.{ascii}
 use Rattle.format.specs.Refusals as why
-use Rattle.format.specs.Map.{mapName}
+use Rattle.format.specs.Answer.{Answer}
+use Rattle.format.specs.Chunks.{chunkData}
+use Rattle.format.specs.Map.{mapName, mapRange}
+use Rattle.format.specs.declared.Range.{Range}
 use Rattle.format.proofs.Maps.{range-short, range-old, range-other, range-bare, range-none, range-chunk}
 use borrow.Author.Needs.{needs}
 use Rattle.chunk.proofs.locate.Statement.{statement}
@@ -60,56 +66,43 @@ enum-known-r c = search needs
 enum-told : tie.Need-enum-told
 enum-told c = search needs
 
+enum-told-2 : tie.Need-enum-told-2
+enum-told-2 c = search needs
+
+-- what the map chunk gives is what the map's place gives
+module _ (d : tie.After-chunk-data) where
+  abbrev left : tie.Else5
+  left = d .before .before .before
+
+  abbrev bare : tie.Else4
+  bare = left .before .before
+
+  abbrev old : tie.Else2
+  old = bare .before .before
+
+  abbrev file : List ℕ
+  file = now (old .before .before .before .before .args .file)
+
+  placed : {a : Answer Range} → a ≡ chunkData why.chunk mapName file (d .before .before .le8 .result) → a ≡ mapRange file
+  placed q =
+      let f = old .before .le4 .ensures .0 in
+      range-chunk file (old .before .before .if1 .left) (λ e. old .if2 .left (f ∙ e)) (sym f ∙ bare .before .if3 .left) (bare .if4 .left)
+      (sym (left .before .is-end .ensures) ∙ not-false _ (left .if5 .left)) (d .before .before .le8 .ensures) q
+
 returns-6 : tie.Need-returns-6
 unfolding mapName ascii
 returns-6 c =
     let d = c .before .before .before in
-    let e = d .before .before .before in
-    let l = e .before .before in
-    let m = l .before in
-    let o = m .before in
-    let f = o .before .le4 .ensures .0 in (
-      range-chunk _ (o .before .before .if1 .left) (λ e. o .if2 .left (f ∙ e)) (sym f ∙ m .if3 .left) (l .if4 .left)
-          (sym (e .before .is-end .ensures) ∙ not-false _ (e .if5 .left))
-          (d .before .before .le8 .ensures)
-          (rw (c .before .r .given .1) at (d .chunk-data .ensures .0 why.chunk)),
-      rw (c .before .r .given .1) at (d .chunk-data .ensures .1),
-    )
-
-enum-told-2 : tie.Need-enum-told-2
-enum-told-2 c = search needs
+    let e = c .before .r .given .1 in
+    (placed d (rw e at (d .chunk-data .ensures .0 why.chunk)), rw e at (d .chunk-data .ensures .1))
 
 returns-7 : tie.Need-returns-7
 unfolding mapName ascii
-returns-7 c =
-    let d = c .before .before in
-    let e = d .before .before .before in
-    let l = e .before .before in
-    let m = l .before in
-    let o = m .before in
-    let f = o .before .le4 .ensures .0 in (
-      range-chunk _ (o .before .before .if1 .left) (λ e. o .if2 .left (f ∙ e)) (sym f ∙ m .if3 .left) (l .if4 .left)
-          (sym (e .before .is-end .ensures) ∙ not-false _ (e .if5 .left))
-          (d .before .before .le8 .ensures)
-          (rw (c .enum-told .given .1) at (d .chunk-data .ensures .0 why.chunk)),
-      tt,
-    )
+returns-7 c = let d = c .before .before in (placed d (rw (c .enum-told .given .1) at (d .chunk-data .ensures .0 why.chunk)), tt)
 
 returns-8 : tie.Need-returns-8
 unfolding mapName ascii
-returns-8 c =
-    let d = c .before .before in
-    let e = d .before .before .before in
-    let l = e .before .before in
-    let m = l .before in
-    let o = m .before in
-    let f = o .before .le4 .ensures .0 in (
-      range-chunk _ (o .before .before .if1 .left) (λ e. o .if2 .left (f ∙ e)) (sym f ∙ m .if3 .left) (l .if4 .left)
-          (sym (e .before .is-end .ensures) ∙ not-false _ (e .if5 .left))
-          (d .before .before .le8 .ensures)
-          (rw (c .enum-told2 .given .1) at (d .chunk-data .ensures .0 why.chunk)),
-      tt,
-    )
+returns-8 c = let d = c .before .before in (placed d (rw (c .enum-told2 .given .1) at (d .chunk-data .ensures .0 why.chunk)), tt)
 
 pub locate-spec : {M : Type 1} → statement M
 locate-spec =
