@@ -53,7 +53,8 @@ module _ (file table b : List ℕ) where
   refused-length f l z =
       let no : Refuses why.summary = λ q. omega arith in
       let number : why.summary ≡ openOn file table b = rw (ne-eqb (length b) 144 f) refl in
-      (number, (l, (never no, ((λ _. z), (never no, ((λ q. absurd (f q)), ((λ _. refl), refused-later _ no (λ q. absurd (f q)) (λ q. absurd (f q)) λ q. absurd (f q))))))))
+      let later = refused-later _ no (λ q. absurd (f q)) (λ q. absurd (f q)) λ q. absurd (f q) in
+      (number, (l, (never no, ((λ _. z), (never no, ((λ q. absurd (f q)), ((λ _. refl), later)))))))
 
   -- the bytes have a summary's length, so that the number is the opening's
   module _ (long : length b ≡ 144) {n : ℕ} (e : n ≡ openCall file table .number) {left : List ℕ} (l : left ≡ zeros (length table)) where

@@ -151,6 +151,7 @@ module _ (s : List ℕ) (u : Summary) (room n : ℕ) where
       unfolding recordsOf planesTree
       short-row f = (by-row s u n planesBy planesUnder planes-listed g q found f, by-row s u n treeOf (treeUnder s room planesName) listed g q found f)
 
-      pub read-on : u .components ≤ n → (recordsOf s u room n ≡ recordsBy s (treeUnder s room planesName l)) × (planesTree s u room n ≡ treeUnder s room planesName l)
+      pub read-on : u .components ≤ n
+          → (recordsOf s u room n ≡ recordsBy s (treeUnder s room planesName l)) × (planesTree s u room n ≡ treeUnder s room planesName l)
       unfolding recordsOf planesTree
       read-on f = (goes-on s u n planesBy planesUnder planes-listed g q found f, goes-on s u n treeOf (treeUnder s room planesName) listed g q found f)

@@ -15,7 +15,8 @@ use Rattle.format.proofs.Trees.{tree-read, fault-read, read-fault}
 use Rattle.format.proofs.Rules.{States, no-such, none-of, bind-some, some-bind, cond-some}
 use Rattle.format.proofs.Means.{Means}
 use Rattle.format.proofs.Fields.{level-at, double-in}
-use Rattle.format.proofs.Named.{Missing, no-entry, no-chunk, wrong-name, named-read, read-named, named-numbered, named-unique, given-tree, refused-tree, refused-chunk, tree-means}
+use Rattle.format.proofs.Named.{Missing, no-entry, no-chunk, wrong-name, named-read, read-named, named-numbered, named-unique, given-tree}
+use Rattle.format.proofs.Named.{refused-tree, refused-chunk, tree-means}
 use Rattle.format.proofs.Suffices.{fault-low}
 use Rattle.format.specs.Answer.{Answer, refused, given, andThen}
 use Rattle.format.specs.Refusals as why

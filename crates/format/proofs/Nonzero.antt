@@ -20,7 +20,9 @@ use Rattle.format.specs.Values.{fieldIn, bind}
 use Rattle.format.specs.Numbers.{signed}
 use Rattle.format.specs.Loops.{Said, nothing, wrong, loop, said, saidBy, typed, counted, supported, mostCount, pointCount, spectralCount, countField, Built, append, walkAll, walkOne, walk, loopParams}
 use Rattle.format.specs.Calls.Open.{opened}
-use Rattle.format.specs.Refused.Open.{Stage, needed, OpenRefusal, no-mark, old-mark, other-mark, no-tail, wrong-tail, no-map-chunk, no-map, no-entry, no-chunk, table-short, tree-fault, no-sizes, compressed, wrong-bits, wrong-shape, no-level, walk-fault, misjudged, plane-over, calibration-short}
+use Rattle.format.specs.Refused.Open.{Stage, needed, OpenRefusal, no-mark, old-mark, other-mark, no-tail, wrong-tail, no-map-chunk, no-map}
+use Rattle.format.specs.Refused.Open.{no-entry, no-chunk, table-short, tree-fault, no-sizes, compressed, wrong-bits, wrong-shape, no-level}
+use Rattle.format.specs.Refused.Open.{walk-fault, misjudged, plane-over, calibration-short}
 use Rattle.format.specs.declared.Entry.{Entry}
 
 -- an answer whose refusals are not 0

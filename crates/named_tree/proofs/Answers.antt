@@ -40,7 +40,8 @@ module _ (s name : List ℕ) (o n : ℕ) where
   chunk-tree r e = rw (← e)
 
   -- what the tree's answer says, and what its table has
-  pub chunk-reads : {r : Range} {d t : List ℕ} {p : Parsed} → length s < 2 ^ 64 → r .start + r .len ≤ length s → given r ≡ chunkData why.chunkName name s o → d ≡ part s (r .start) (r .len)
+  pub chunk-reads : {r : Range} {d t : List ℕ} {p : Parsed} → length s < 2 ^ 64 → r .start + r .len ≤ length s → given r ≡ chunkData why.chunkName name s o
+      → d ≡ part s (r .start) (r .len)
       → parsedIn t p ≡ treeInto d (r .start) n → t ≡ treeBy n (treeInto d (r .start) n) .buffer → Reads s t n (treeAt s (roomIn n) name o) p
   unfolding treeBy
   chunk-reads {r} {d} {t} {p} small within e q a b =
@@ -75,7 +76,8 @@ module _ (s : List ℕ) (room : ℕ) (name : List ℕ) where
   unfolding treeUnder andThen orRefuse namedTree namedChunk treeAt
   under-listed m es = go (offsetOf m name es)
     where
-      go : (o : Option ℕ) → treeUnder s room name (given o) ≡ andThen (andThen (orRefuse o 11) (chunkData why.chunkName name s)) λ r. treeEntries (within room (treeIn s r))
+      go : (o : Option ℕ) → treeUnder s room name (given o)
+          ≡ andThen (andThen (orRefuse o 11) (chunkData why.chunkName name s)) λ r. treeEntries (within room (treeIn s r))
       go none = refl
       go (some o) = refl
 

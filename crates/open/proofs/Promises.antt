@@ -38,8 +38,16 @@ module _ (s t : List ℕ) where
 
   sentences : Sentences (openCall s t .number) (openCall s t .summary)
   sentences =
-      let sound = third .opened-sound s t in
-      (first .open-number s t, (first .open-refused s t, (third .opens-exactly s t, (third .returns-theirs s t, (sound, (different, (whole-numbers .open-whole s t, (whole-numbers .open-typed s t, named))))))))
+      let sound = third .opened-sound s t in (
+        first .open-number s t,
+        (
+          first .open-refused s t,
+          (
+            third .opens-exactly s t,
+            (third .returns-theirs s t, (sound, (different, (whole-numbers .open-whole s t, (whole-numbers .open-typed s t, named))))),
+          ),
+        ),
+      )
 
   pub promised : {r : Opened} {out : List ℕ} → Says r (opened s (roomIn (length t))) → out ≡ zeros (length t) → Promised r out
   unfolding openCall

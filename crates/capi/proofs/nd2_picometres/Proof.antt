@@ -61,8 +61,16 @@ returns-2 c =
     let e = l .ensures in
     let k = i .if1 .left in
     let z = d .clear .ensures in
-    let (n, (m, t)) = all-three (on-none _ _ r e k) refl refl z in
-    (n, (m, (t, (z, (where-unsaid s r e k _, ((λ _. refl), (refused-unsaid s r e k _, ((λ _. refl), ((λ x. absurd (omega arith)), where-unsaid s r e k _)))))))))
+    let (n, (m, t)) = all-three (on-none _ _ r e k) refl refl z in (
+      n,
+      (
+        m,
+        (
+          t,
+          (z, (where-unsaid s r e k _, ((λ _. refl), (refused-unsaid s r e k _, ((λ _. refl), ((λ x. absurd (omega arith)), where-unsaid s r e k _)))))),
+        ),
+      ),
+    )
 
 pub nd2-picometres-spec : {M : Type 1} → statement M
 nd2-picometres-spec =

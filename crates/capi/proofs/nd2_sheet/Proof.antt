@@ -58,7 +58,10 @@ returns-2 c =
         b,
         (
           (λ _. refl),
-          (where-unsaid s r e k _, ((λ _. refl), (refused-unsaid s r e k _, ((λ z. absurd (omega arith)), ((λ z. absurd (omega arith)), where-unsaid s r e k _))))),
+          (
+            where-unsaid s r e k _,
+            ((λ _. refl), (refused-unsaid s r e k _, ((λ z. absurd (omega arith)), ((λ z. absurd (omega arith)), where-unsaid s r e k _)))),
+          ),
         ),
       ),
     )

@@ -57,8 +57,16 @@ returns-2 c =
     let r = l .result in
     let e = l .ensures in
     let k = i .if1 .left in
-    let (n, b) = both (on-none _ _ r e k) refl (d .clear .ensures) in
-    (n, (b, ((λ _. d .clear .ensures), (where-unsaid s r e k _, ((λ _. refl), (refused-unsaid s r e k _, ((λ z. absurd (omega arith)), where-unsaid s r e k _)))))))
+    let (n, b) = both (on-none _ _ r e k) refl (d .clear .ensures) in (
+      n,
+      (
+        b,
+        (
+          (λ _. d .clear .ensures),
+          (where-unsaid s r e k _, ((λ _. refl), (refused-unsaid s r e k _, ((λ z. absurd (omega arith)), where-unsaid s r e k _)))),
+        ),
+      ),
+    )
 
 pub nd2-tree-spec : {M : Type 1} → statement M
 nd2-tree-spec =

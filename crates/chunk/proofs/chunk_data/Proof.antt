@@ -43,7 +43,9 @@ returns-5 : tie.Need-returns-5
 returns-5 c =
     let n = c .before .before .before in
     let m = n .before in
-    (λ w. wrong-name w _ _ _ (omega arith) (sym (m .before .le4 .ensures .0) ∙ m .if3 .left) (n .le42 .ensures .0) (omega arith) (sym (c .before .begins-at .ensures) ∙ not-true _ (c .if5 .taken)), tt)
+    let mark = sym (m .before .le4 .ensures .0) ∙ m .if3 .left in
+    let name = sym (c .before .begins-at .ensures) ∙ not-true _ (c .if5 .taken) in
+    (λ w. wrong-name w _ _ _ (omega arith) mark (n .le42 .ensures .0) (omega arith) name, tt)
 
 add-le8 : tie.Need-add-le8
 add-le8 c = search needs
@@ -62,14 +64,18 @@ returns-6 c =
     let b = c .before .before in
     let n = b .before .before .before in
     let m = n .before in
-    (λ w. cut-data w _ _ _ (omega arith) (sym (m .before .le4 .ensures .0) ∙ m .if3 .left) (n .le42 .ensures .0) (omega arith) (sym (b .before .begins-at .ensures) ∙ not-false _ (b .if5 .left)) (c .before .le8 .ensures) (omega arith), tt)
+    let mark = sym (m .before .le4 .ensures .0) ∙ m .if3 .left in
+    let name = sym (b .before .begins-at .ensures) ∙ not-false _ (b .if5 .left) in
+    (λ w. cut-data w _ _ _ (omega arith) mark (n .le42 .ensures .0) (omega arith) name (c .before .le8 .ensures) (omega arith), tt)
 
 returns-7 : tie.Need-returns-7
 returns-7 c =
     let b = c .before .before in
     let n = b .before .before .before in
     let m = n .before in
-    (λ w. whole-chunk w _ _ _ (omega arith) (sym (m .before .le4 .ensures .0) ∙ m .if3 .left) (n .le42 .ensures .0) (omega arith) (sym (b .before .begins-at .ensures) ∙ not-false _ (b .if5 .left)) (c .before .le8 .ensures) (omega arith), omega arith)
+    let mark = sym (m .before .le4 .ensures .0) ∙ m .if3 .left in
+    let name = sym (b .before .begins-at .ensures) ∙ not-false _ (b .if5 .left) in
+    (λ w. whole-chunk w _ _ _ (omega arith) mark (n .le42 .ensures .0) (omega arith) name (c .before .le8 .ensures) (omega arith), omega arith)
 
 pub chunk-data-spec : {M : Type 1} → statement M
 chunk-data-spec =

@@ -26,7 +26,8 @@ bad-frame-requires : tie.Need-bad-frame-requires
 bad-frame-requires c κs = search needs
 
 -- the chunk's data
-data-at : (c : tie.After-known-told) → let a = c .before .before .before .before .before .args in given (c .before .r .given .0 .0) ≡ chunkData why.chunkName (frameName (a .n)) (now (a .file)) (a .offset)
+data-at : (c : tie.After-known-told) → let a = c .before .before .before .before .before .args in
+    given (c .before .r .given .0 .0) ≡ chunkData why.chunkName (frameName (a .n)) (now (a .file)) (a .offset)
 data-at c = rw (c .before .r .given .1) at (c .before .before .before .frame-chunk .ensures .0 why.chunkName)
 
 returns : tie.Need-returns
