@@ -10,7 +10,7 @@ use lib.Dec.{ltb}
 use lib.ListN.{length}
 use borrow.Author.Tests.{ltb-false, le-ltb}
 use Rattle.format.proofs.Answers.{refused≢given, refused-inj, refuseIf-past, andThen-past, andThen-own, orRefuse-given, orRefuse-numbered}
-use Rattle.format.proofs.Answers.{not-refused, go-on, stops, found, Numbered, refusal, answer}
+use Rattle.format.proofs.Answers.{number-refused, not-refused, go-on, stops, found, Numbered, refusal, answer}
 use Rattle.format.proofs.Orders.{not-in, first-in}
 use Rattle.format.proofs.Stages.{decides-from}
 use Rattle.format.proofs.Frames.{seq-different}
@@ -21,13 +21,16 @@ use Rattle.format.proofs.Maps.{read-map, map-numbered, read-listed, ran
 use Rattle.format.proofs.Named.{read-range, read-mapped, mapped-unique}
 use Rattle.format.proofs.Summaries.{sound-read, read-sound}
 use Rattle.format.proofs.Entries.{frame-entry, entry-frame, read-entry, entry-once}
+use Rattle.format.proofs.Planes as plane
+use Rattle.format.proofs.SheetCalls as sheet
+use Rattle.format.proofs.TreeCalls as tree
 use Rattle.format.proofs.Planes.{index-read, read-index, Found, plane-found}
 use Rattle.format.proofs.TreeCalls.{tree-decides, says-29}
 use Rattle.format.proofs.ChannelCalls.{planesName}
 use Rattle.format.proofs.Calibrated.{calibrationName}
 use Rattle.format.proofs.OpenNumbers.{open-astray}
 use Rattle.format.proofs.Demands.{first, third}
-use Rattle.format.specs.Answer.{Answer, refused, given, refuseIf, orRefuse, numberOf}
+use Rattle.format.specs.Answer.{Answer, refused, given, refuseIf, andThen, orRefuse, numberOf}
 use Rattle.format.specs.Bytes.{ascii, part, begins, leAt}
 use Rattle.format.specs.Refusals as why
 use Rattle.format.specs.Chunks.{chunkMark, chunkData, dataIn}
@@ -40,9 +43,9 @@ use Rattle.format.specs.Picometres.{picometres}
 use Rattle.format.specs.Sheets.{sheetBytes, mostSheetBytes}
 use Rattle.format.specs.Summary.{shapeOf, loopsOf, mapOf, badSummary}
 use Rattle.format.specs.Calls.Open.{opened, openCall}
-use Rattle.format.specs.Calls.Plane.{mostPlaneBytes, badIndex, badFrame, frameOf, frameFor, planeBy, planeCall}
-use Rattle.format.specs.Calls.Sheet.{sheetFor, sheetBy, sheetCall}
-use Rattle.format.specs.Calls.Tree.{treeNamed, treeBy, treeCall}
+use Rattle.format.specs.Calls.Plane.{mostPlaneBytes, badIndex, badFrame, frameOf, frameFor, planeCall}
+use Rattle.format.specs.Calls.Sheet.{sheetFor, sheetCall}
+use Rattle.format.specs.Calls.Tree.{treeNamed, treeCall}
 use Rattle.format.specs.Calls.Picometres.{picometresIn, picometresOf, picometresCall}
 use Rattle.format.specs.Calls.Channels.{channelsCall}
 use Rattle.format.specs.Calls.Register.{registerCall}
@@ -52,12 +55,12 @@ use Rattle.format.specs.Grammar.Channels.{Empty}
 use Rattle.format.specs.Grammar.Calibration.{CalibrationAt, Calibrated, sized, unsized, ends-packed, faulty, missing}
 use Rattle.format.specs.Grammar.File.{SummaryOf, Joined}
 use Rattle.format.specs.Refused.Summary.{Sound, Uncalibrated}
-use Rattle.format.specs.Refused.Chunk.{ChunkStage, ChunkRefusal, no-head, misnamed, no-data}
+use Rattle.format.specs.Refused.Chunk.{ChunkStage, Misnamed, ChunkRefusal, no-head, misnamed, no-data}
 use Rattle.format.specs.Refused.Plane.{FrameEntry}
 use Rattle.format.specs.Refused.Channels.{channelsOrder, RecordAt, of-plane, of-none, unstated, surplus, Emptied}
 use Rattle.format.specs.Refused.Register.{registerOrder}
 use Rattle.format.specs.Refused.Open.{Needed, attributes, experiment, needed}
-use Rattle.format.specs.Sentences.{Misnamed, NameAstray, EntryAstray, FrameAstray, FrameNamed, TreeNamed, NeededNamed, CalibrationNamed, ChannelsNamed}
+use Rattle.format.specs.Sentences.{NameAstray, EntryAstray, FrameAstray, FrameNamed, TreeNamed, NeededNamed, CalibrationNamed, ChannelsNamed}
 use Rattle.format.specs.declared.Range.{Range}
 use Rattle.format.specs.declared.Entry.{Entry}
 use Rattle.format.specs.declared.Calibration.{Calibration}
@@ -77,7 +80,7 @@ module _ (name s : List ℕ) (o : ℕ) where
 
   astray-said : (a : ChunkStage) (n : ℕ) → ChunkRefusal name s o a n → n ≡ why.chunkName → Misnamed name s o
   astray-said a n (no-head f) e = absurd (omega arith)
-  astray-said a n (misnamed h f) e = record { headed = h; another = f }
+  astray-said a n (misnamed x) e = x
   astray-said a n (no-data h f) e = absurd (omega arith)
 
   -- and 29 is of such a chunk
@@ -134,46 +137,35 @@ module _ (s : List ℕ) (u : Summary) (scene t c z : ℕ) where
       (go-on (orRefuse (offsetOf (mapOf s u) name es) why.noFrame) _ (x .offset) (found _ why.noFrame (x .offset) at)
       (stops (chunkData why.chunkName name s (x .offset)) _ (astray-refused name s (x .offset) why.chunkName (rw k at (x .misnamed))))))))
 
+  -- a call that goes on with the frame's data, and gives no 29 of its own
+  named-behind : {B : Type 0} (k : Range → Answer B) → ((r : Range) → k r ≡ refused why.chunkName → ⊥)
+      → FrameNamed s u scene t c z (numberOf (andThen (frameOf s u scene t c z) k))
+  unfolding numberOf
+  named-behind k own = (
+    λ e. frame-astray (andThen-own (frameOf s u scene t c z) k own (number-refused (andThen (frameOf s u scene t c z) k) (λ q. omega arith) e)),
+    λ x. ap numberOf (stops (frameOf s u scene t c z) k (astray-frame x)),
+  )
+
   -- the plane call, and the call that writes a sheet
   pub plane-named : (samples : List ℕ) → FrameNamed s u scene t c z (planeCall s u scene t c z samples .number)
-  unfolding planeCall frameFor planeBy
-  plane-named samples = (λ e. frame-astray (andThen-own (frameOf s u scene t c z) _ own (number (frameFor s u scene t c z room) e)), λ x. told (astray-frame x))
+  unfolding planeCall frameFor
+  plane-named samples = rw (plane.by-number s u scene t c z samples (frameFor s u scene t c z (length samples))) (named-behind _ own)
     where
-      room : ℕ
-      room = length samples
-
-      own : (r : Range) → refuseIf (ltb room (planeBytes (shapeOf u))) why.buffer (given r) ≡ refused why.chunkName → ⊥
-      own r e = let (f, g) = refuseIf-past (ltb room (planeBytes (shapeOf u))) why.buffer (given r) (λ q. omega arith) e in refused≢given (sym g)
-
-      number : (x : Answer Range) → planeBy s u c samples x .number ≡ why.chunkName → x ≡ refused why.chunkName
-      number (refused n) e = ap refused e
-      number (given r) e = absurd (omega arith)
-
-      told : frameOf s u scene t c z ≡ refused why.chunkName → planeBy s u c samples (frameFor s u scene t c z room) .number ≡ why.chunkName
-      told e = ap (λ (x : Answer Range). planeBy s u c samples x .number) (stops (frameOf s u scene t c z) _ e)
+      own : (r : Range) → refuseIf (ltb (length samples) (planeBytes (shapeOf u))) why.buffer (given r) ≡ refused why.chunkName → ⊥
+      own r e = let (f, g) = refuseIf-past (ltb (length samples) (planeBytes (shapeOf u))) why.buffer (given r) (λ q. omega arith) e in refused≢given (sym g)
 
   pub sheet-named : (lent : List ℕ) → FrameNamed s u scene t c z (sheetCall s u scene t c z lent .number)
-  unfolding sheetCall sheetFor sheetBy
-  sheet-named lent = (λ e. frame-astray (andThen-own (frameOf s u scene t c z) _ own (number (sheetFor s u scene t c z room) e)), λ x. told (astray-frame x))
+  unfolding sheetCall sheetFor
+  sheet-named lent = rw (sheet.by-number s u scene t c z lent (sheetFor s u scene t c z (length lent))) (named-behind _ own)
     where
-      room : ℕ
-      room = length lent
-
       size : ℕ
       size = sheetBytes (u .width) (u .height) (u .bits)
 
-      own : (r : Range) → refuseIf (ltb mostSheetBytes size) why.sheetLong (refuseIf (ltb room size) why.buffer (given r)) ≡ refused why.chunkName → ⊥
+      own : (r : Range) → refuseIf (ltb mostSheetBytes size) why.sheetLong (refuseIf (ltb (length lent) size) why.buffer (given r)) ≡ refused why.chunkName → ⊥
       own r e =
           let (f, g) = refuseIf-past (ltb mostSheetBytes size) why.sheetLong _ (λ q. omega arith) e in
-          let (h, k) = refuseIf-past (ltb room size) why.buffer (given r) (λ q. omega arith) g in
+          let (h, k) = refuseIf-past (ltb (length lent) size) why.buffer (given r) (λ q. omega arith) g in
           refused≢given (sym k)
-
-      number : (x : Answer Range) → sheetBy s u c lent x .number ≡ why.chunkName → x ≡ refused why.chunkName
-      number (refused n) e = ap refused e
-      number (given r) e = absurd (omega arith)
-
-      told : frameOf s u scene t c z ≡ refused why.chunkName → sheetBy s u c lent (sheetFor s u scene t c z room) .number ≡ why.chunkName
-      told e = ap (λ (x : Answer Range). sheetBy s u c lent x .number) (stops (frameOf s u scene t c z) _ e)
 
 -- ---- two points never have one chunk
 
@@ -224,32 +216,27 @@ module _ (s : List ℕ) (u : Summary) (name : List ℕ) where
       (astray-refused name s o why.chunkName m))))
 
   pub tree-named : (table : List ℕ) → TreeNamed s u name (treeCall s u name table .number)
-  unfolding treeCall treeBy
-  tree-named table = (
-    λ e. tree-astray room (number (treeNamed s u name room) e),
-    λ (g, x). ap (λ (y : Answer (List Entry)). treeBy (length table) y .number) (astray-tree room g x),
-  )
+  unfolding treeCall
+  tree-named table = rw (tree.by-number (length table) (treeNamed s u name room)) (told, back)
     where
       room : ℕ
       room = roomIn (length table)
 
-      number : (x : Answer (List Entry)) → treeBy (length table) x .number ≡ why.chunkName → x ≡ refused why.chunkName
-      number (refused n) e = ap refused e
-      number (given es) e = absurd (omega arith)
+      told : numberOf (treeNamed s u name room) ≡ why.chunkName → Sound s u × NameAstray s u name
+      told e = tree-astray room (number-refused (treeNamed s u name room) (λ q. omega arith) e)
+
+      back : Sound s u × NameAstray s u name → numberOf (treeNamed s u name room) ≡ why.chunkName
+      back (g, x) = rw (astray-tree room g x) (unfold numberOf in refl)
 
 pub picometres-named : (s : List ℕ) (u : Summary) (table : List ℕ) → TreeNamed s u (ascii "ImageCalibrationLV|0!") (picometresCall s u table .number)
 unfolding picometresCall picometresOf picometresIn numberOf
 picometres-named s u table = (
-  λ e. tree-astray s u calibrationName room (andThen-own (treeNamed s u calibrationName room) _ own (number (picometresOf s u room) e)),
+  λ e. tree-astray s u calibrationName room (andThen-own (treeNamed s u calibrationName room) _ own (number-refused (picometresOf s u room) (λ q. omega arith) e)),
   λ (g, x). ap numberOf (stops (treeNamed s u calibrationName room) _ (astray-tree s u calibrationName room g x)),
 )
   where
     room : ℕ
     room = roomIn (length table)
-
-    number : (x : Answer ℕ) → numberOf x ≡ why.chunkName → x ≡ refused why.chunkName
-    number (refused n) e = ap refused e
-    number (given n) e = absurd (omega arith)
 
     own : (es : List Entry) → picometresIn s es ≡ refused why.chunkName → ⊥
     own es e =

@@ -99,7 +99,7 @@ module _ (name s : List ℕ) (o : ℕ) where
   head-passes h n (no-head f) = f h
 
   name-passes : Begins name (ownName s o) → (n : ℕ) → Q own-name n → ⊥
-  name-passes b n (misnamed h f) = f b
+  name-passes b n (misnamed x) = x .another b
 
   body-passes : DataWithin s o → (n : ℕ) → Q body n → ⊥
   body-passes k n (no-data h f) = f k
@@ -115,7 +115,7 @@ module _ (name s : List ℕ) (o : ℕ) where
       tests (ltb (length s) (o + 16 + n)) _ _ (λ q. no-head λ h. past (ltb-true _ _ q) (h .name-within)) λ q₃.
       let h : Headed s o = record { header-within = ltb-false _ _ q₁; mark = eqb-true _ _ (not-false _ q₂); name-within = ltb-false _ _ q₃ } in
       goes (head-passes h)
-      (tests (not (begins name (part s (o + 16) n))) _ _ (λ q. misnamed h λ b. true≢false (sym (true-begins _ _ b) ∙ not-true _ q)) λ q₄.
+      (tests (not (begins name (part s (o + 16) n))) _ _ (λ q. misnamed (record { headed = h; another = λ b. true≢false (sym (true-begins _ _ b) ∙ not-true _ q) })) λ q₄.
       goes (name-passes (begins-true _ _ (not-false _ q₄)))
       (tests (ltb (length s) (o + 16 + n + l)) _ _ (λ q. no-data h (past (ltb-true _ _ q))) λ q₅.
       goes (body-passes (ltb-false _ _ q₅)) gives))
@@ -123,12 +123,12 @@ module _ (name s : List ℕ) (o : ℕ) where
   -- each stage has one number, which is not 0
   pub chunk-once : (a : ChunkStage) (n m : ℕ) → Q a n → Q a m → n ≡ m
   chunk-once a n m (no-head f) (no-head g) = refl
-  chunk-once a n m (misnamed h f) (misnamed k g) = refl
+  chunk-once a n m (misnamed x) (misnamed y) = refl
   chunk-once a n m (no-data h f) (no-data k g) = refl
 
   pub chunk-staged : (a : ChunkStage) (n : ℕ) → Q a n → In a chunkOrder × (0 < n)
   chunk-staged a n (no-head f) = (here, lit< tt)
-  chunk-staged a n (misnamed h f) = (behind here, lit< tt)
+  chunk-staged a n (misnamed x) = (behind here, lit< tt)
   chunk-staged a n (no-data h f) = (behind (behind here), lit< tt)
 
 -- ---- test by test

@@ -360,7 +360,7 @@ high s room a n (no-map-chunk f) l = absurd (omega arith)
 high s room a n (no-map x f) l = absurd (omega arith)
 high s room a n (no-entry x f) l = absurd (omega arith)
 high s room a n (no-chunk x k (no-head f)) l = absurd (omega arith)
-high s room a n (no-chunk {w = w} {r = r} {es = es} {o = o} x k (misnamed h f)) l = astray w (r, es, o, x, k, record { headed = h; another = f })
+high s room a n (no-chunk {w = w} {r = r} {es = es} {o = o} x k (misnamed y)) l = astray w (r, es, o, x, k, y)
 high s room a n (no-chunk x k (no-data h f)) l = absurd (omega arith)
 high s room a n (table-short {w = attributes} x) l = full (needed attributes) attributesRead x
 high s room a n (table-short {w = experiment} x) l = full (needed experiment) experimentRead x

@@ -110,7 +110,7 @@ stage-once s room a n m (no-map-chunk f) (no-map-chunk g) = refl
 stage-once s room a n m (no-map x f) (no-map y g) = refl
 stage-once s room a n m (no-entry x f) (no-entry y g) = refl
 stage-once s room a n m (no-chunk x l (no-head f)) (no-chunk y k (no-head g)) = refl
-stage-once s room a n m (no-chunk x l (misnamed h f)) (no-chunk y k (misnamed i g)) = refl
+stage-once s room a n m (no-chunk x l (misnamed h)) (no-chunk y k (misnamed i)) = refl
 stage-once s room a n m (no-chunk x l (no-data h f)) (no-chunk y k (no-data i g)) = refl
 stage-once s room a n m (table-short x) (table-short y) = refl
 stage-once s room a n m (tree-fault {r = r} x f) (tree-fault {r = q} y g) =

@@ -180,7 +180,7 @@ module _ (s : List ℕ) (u : Summary) (scene t c z : ℕ) where
   frame-stage-once a n m (no-map f) (no-map g) = refl
   frame-stage-once a n m (no-frame f) (no-frame g) = refl
   frame-stage-once a n m (no-chunk x (no-head f)) (no-chunk y (no-head g)) = refl
-  frame-stage-once a n m (no-chunk x (misnamed h f)) (no-chunk y (misnamed k g)) = refl
+  frame-stage-once a n m (no-chunk x (misnamed h)) (no-chunk y (misnamed k)) = refl
   frame-stage-once a n m (no-chunk x (no-data h f)) (no-chunk y (no-data k g)) = refl
   frame-stage-once a n m (frame-short x f) (frame-short y g) = refl
 
@@ -202,7 +202,7 @@ module _ (s : List ℕ) (u : Summary) (scene t c z : ℕ) (buf : List ℕ) where
       tests (ltb (length buf) (planeBytes (shapeOf u))) why.buffer _ (λ q. buffer-short (ltb-true _ _ q)) λ q.
       goes (buffer-passes (ltb-false _ _ q)) gives
 
-  by-number : (x : Answer Range) → planeBy s u c buf x .number ≡ numberOf x
+  pub by-number : (x : Answer Range) → planeBy s u c buf x .number ≡ numberOf x
   unfolding planeBy numberOf
   by-number (refused n) = refl
   by-number (given r) = refl

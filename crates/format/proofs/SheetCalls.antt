@@ -73,7 +73,7 @@ module _ (s : List ℕ) (u : Summary) (scene t c z : ℕ) (lent : List ℕ) wher
       goes (size-passes (ltb-false _ _ q₁))
       (tests (ltb (length lent) bytes) why.buffer _ (λ q. lent-short (ltb-true _ _ q)) λ q₂. goes (buffer-passes (ltb-false _ _ q₂)) gives)
 
-  by-number : (x : Answer Range) → sheetBy s u c lent x .number ≡ numberOf x
+  pub by-number : (x : Answer Range) → sheetBy s u c lent x .number ≡ numberOf x
   unfolding sheetBy numberOf
   by-number (refused n) = refl
   by-number (given r) = refl

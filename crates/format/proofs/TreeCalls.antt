@@ -111,7 +111,7 @@ module _ (s : List ℕ) (u : Summary) (name : List ℕ) (room : ℕ) where
   high a n (no-map f) h = absurd (omega arith)
   high a n (no-entry f) h = absurd (omega arith)
   high a n (no-chunk x (no-head f)) h = absurd (omega arith)
-  high a n (no-chunk {o = o} x (misnamed k f)) h = astray (o, x, record { headed = k; another = f })
+  high a n (no-chunk {o = o} x (misnamed y)) h = astray (o, x, y)
   high a n (no-chunk x (no-data k f)) h = absurd (omega arith)
   high a n (table-short x) h = full x
   high a n (tree-fault {r = r} x f) h = let (l, m) = fault-is-low r n f in absurd (omega arith)
@@ -210,7 +210,7 @@ module _ (s : List ℕ) (u : Summary) (name : List ℕ) (room : ℕ) where
       let (es, f₂, e₂) = andThen-given (mapEntries (mapOf s u)) _ e₁ in
       named-whole es f₂ ts e₂
 
-by-number : (n : ℕ) (x : Answer (List Entry)) → treeBy n x .number ≡ numberOf x
+pub by-number : (n : ℕ) (x : Answer (List Entry)) → treeBy n x .number ≡ numberOf x
 unfolding treeBy numberOf
 by-number n (refused k) = refl
 by-number n (given es) = refl

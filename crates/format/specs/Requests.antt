@@ -45,13 +45,13 @@ use Rattle.format.specs.Grammar.Channels.{Colored, Covers}
 use Rattle.format.specs.Grammar.Picometres.{distance, Rounds, Positive, Endless, AboveZero, InPicometres}
 use Rattle.format.specs.Grammar.Comparison.{NamesTell, Looked}
 use Rattle.format.specs.Refused.Order.{First, FirstAt}
-use Rattle.format.specs.Refused.Chunk.{chunkOrder, ChunkRefusal}
+use Rattle.format.specs.Refused.Chunk.{chunkOrder, Misnamed, ChunkRefusal}
 use Rattle.format.specs.Refused.Plane.{FrameEntry}
 use Rattle.format.specs.Refused.Sheet.{SheetRefusal, sheetOrder, SheetReadRefusal, sheetReadOrder}
 use Rattle.format.specs.Refused.Picometres.{PicometresRefusal, picometresOrder, SizeIs}
 use Rattle.format.specs.Sentences.{Refuses, AcceptedUnless, AtSome, SheetWritten, PlaneOn, SheetTaken, TurnedAway, ZeroSizes}
 use Rattle.format.specs.Sentences.{SizeField, WholeNeeded, WholeTyped, SizeTold}
-use Rattle.format.specs.Sentences.{Misnamed, FrameNamed, TreeNamed, NeededNamed, CalibrationNamed, ChannelsNamed}
+use Rattle.format.specs.Sentences.{FrameNamed, TreeNamed, NeededNamed, CalibrationNamed, ChannelsNamed}
 use Rattle.format.specs.declared.Range.{Range}
 use Rattle.format.specs.declared.Entry.{Entry}
 use Rattle.format.specs.declared.Attributes.{Attributes}

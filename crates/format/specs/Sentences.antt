@@ -20,7 +20,6 @@ use Rattle.format.specs.Refusals as why
 use Rattle.format.specs.Sheets.{sheet}
 use Rattle.format.specs.Calls.Plane.{planeCall}
 use Rattle.format.specs.Calls.Picometres.{SizeOutcome}
-use Rattle.format.specs.Grammar.Chunks.{Begins, Headed, ownName}
 use Rattle.format.specs.Grammar.Map.{Listed, Mapped}
 use Rattle.format.specs.Grammar.Sheets.{SheetOf}
 use Rattle.format.specs.Grammar.Trees.{Tree}
@@ -28,6 +27,7 @@ use Rattle.format.specs.Grammar.Values.{Field}
 use Rattle.format.specs.Grammar.Numbers.{NotUnsigned, NotSigned}
 use Rattle.format.specs.Grammar.File.{Joined}
 use Rattle.format.specs.Grammar.Table.{Enough}
+use Rattle.format.specs.Refused.Chunk.{Misnamed}
 use Rattle.format.specs.Refused.Open.{Needed, attributes, needed, TreeAt, TooMany, SizesAt, ExperimentAt}
 use Rattle.format.specs.Refused.Plane.{Within, FrameEntry, FrameData, PlaneRefusal, Copied}
 use Rattle.format.specs.Refused.Channels.{Emptied}
@@ -173,12 +173,7 @@ pub data SizeTold (file : List ℕ) (u : Summary) (said : SizeOutcome) : Type 0 
 
 -- ---- change request 6, "A chunk must bear its own name"
 
--- the chunk at o has header and name in the file, and that name does not begin with `name`
-pub record Misnamed (name file : List ℕ) (o : ℕ) : Type 0 where
-  pub headed : Headed file o
-  pub another : Begins name (ownName file o) → ⊥
-
--- the summary's map leads from a name to such a chunk
+-- the summary's map leads from a name to a chunk of another one
 abbrev pub NameAstray : List ℕ → Summary → List ℕ → Type 0
 NameAstray file u name = (o : ℕ) × NameEntry file u name o × Misnamed name file o
 

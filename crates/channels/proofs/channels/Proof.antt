@@ -153,7 +153,8 @@ module _ {M : Type 1} (𝓤 : URA M) (H : Heap 𝓤) (A : Atoms 𝓤) (W : Given
       qed W (Tokens ∷ ‵ (finally R (row .name) zs) ∷ ‵ (finally u8 γ₁ ts) ∷ ‵ Own ∷ []) ∵
       suffices ! _ (ends-at 𝓤 H A f.ended stayed (f.clauses 𝓤 H A mem run) W ((κs, (q₀, (q₁, (q₂, tt))), tt, x, at), tt) (vint w32 k) k (tt, (tt, (ts, (zs, tt)))) (tt, (tt, (l₁, (l₂, tt))))) $
       suffices ! _ (monoR 𝓤 (onExit 𝓤 H A f.ended stayed κs (q₀, (q₁, (q₂, tt))) at (vint w32 k) k x (tt, (tt, (ts, (zs, tt)))))
-      (beside 𝓤 (e .0) (beside 𝓤 (e .1) (beside 𝓤 (e .2) (beside 𝓤 (e .3) (beside 𝓤 (e .4) (beside 𝓤 (e .5) (beside 𝓤 (e .6) (beside 𝓤 (e .7) (id⊢ 𝓤 _)))))))))) $
+      (beside 𝓤 (e .0) (beside 𝓤 (e .1) (beside 𝓤 (e .2) (beside 𝓤 (e .3)
+      (beside 𝓤 (e .4) (beside 𝓤 (e .5) (beside 𝓤 (e .6) (beside 𝓤 (e .7) (id⊢ 𝓤 _)))))))))) $
       says ! (e .8) $ frame ! $
       -- [the row's last list; the table's last list; what file owns]
       nothing ! $ move ! (1 ∷ 0 ∷ []) $ fjoin ! $ move ! (1 ∷ 0 ∷ []) $ fjoin ! $ owned ! RS (Is RS) ((LL.makes S.the-type S′.the-plain) 𝓤 H A) u _ g $ fjoin ! $ move ! (1 ∷ 0 ∷ []) $ fjoin ! $ frame ! $
