@@ -161,7 +161,8 @@ module _ (s : List ℕ) (u : Summary) (scene t c z : ℕ) where
       size : ℕ
       size = sheetBytes (u .width) (u .height) (u .bits)
 
-      own : (r : Range) → refuseIf (ltb mostSheetBytes size) why.sheetLong (refuseIf (ltb (length lent) size) why.buffer (given r)) ≡ refused why.chunkName → ⊥
+      own : (r : Range) → refuseIf (ltb mostSheetBytes size) why.sheetLong (refuseIf (ltb (length lent) size) why.buffer (given r)) ≡ refused why.chunkName
+          → ⊥
       own r e =
           let (f, g) = refuseIf-past (ltb mostSheetBytes size) why.sheetLong _ (λ q. omega arith) e in
           let (h, k) = refuseIf-past (ltb (length lent) size) why.buffer (given r) (λ q. omega arith) g in
@@ -231,12 +232,15 @@ module _ (s : List ℕ) (u : Summary) (name : List ℕ) where
 pub picometres-named : (s : List ℕ) (u : Summary) (table : List ℕ) → TreeNamed s u (ascii "ImageCalibrationLV|0!") (picometresCall s u table .number)
 unfolding picometresCall picometresOf picometresIn numberOf
 picometres-named s u table = (
-  λ e. tree-astray s u calibrationName room (andThen-own (treeNamed s u calibrationName room) _ own (number-refused (picometresOf s u room) (λ q. omega arith) e)),
+  λ e. tree-astray s u calibrationName room (andThen-own (treeNamed s u calibrationName room) _ own (refusal-of e)),
   λ (g, x). ap numberOf (stops (treeNamed s u calibrationName room) _ (astray-tree s u calibrationName room g x)),
 )
   where
     room : ℕ
     room = roomIn (length table)
+
+    refusal-of : numberOf (picometresOf s u room) ≡ why.chunkName → picometresOf s u room ≡ refused why.chunkName
+    refusal-of e = number-refused (picometresOf s u room) (λ q. omega arith) e
 
     own : (es : List Entry) → picometresIn s es ≡ refused why.chunkName → ⊥
     own es e =

@@ -115,7 +115,8 @@ module _ (name s : List ℕ) (o : ℕ) where
       tests (ltb (length s) (o + 16 + n)) _ _ (λ q. no-head λ h. past (ltb-true _ _ q) (h .name-within)) λ q₃.
       let h : Headed s o = record { header-within = ltb-false _ _ q₁; mark = eqb-true _ _ (not-false _ q₂); name-within = ltb-false _ _ q₃ } in
       goes (head-passes h)
-      (tests (not (begins name (part s (o + 16) n))) _ _ (λ q. misnamed (record { headed = h; another = λ b. true≢false (sym (true-begins _ _ b) ∙ not-true _ q) })) λ q₄.
+      (tests (not (begins name (part s (o + 16) n))) _ _
+      (λ q. misnamed (record { headed = h; another = λ b. true≢false (sym (true-begins _ _ b) ∙ not-true _ q) })) λ q₄.
       goes (name-passes (begins-true _ _ (not-false _ q₄)))
       (tests (ltb (length s) (o + 16 + n + l)) _ _ (λ q. no-data h (past (ltb-true _ _ q))) λ q₅.
       goes (body-passes (ltb-false _ _ q₅)) gives))
