@@ -45,10 +45,16 @@ module _ (f : ℕ → Bool) where
       go i zero h = refl
       go i (suc m) h = rw (h i (omega arith) (omega arith)) (go (suc i) m (λ k a b. h k (omega arith) (omega arith)))
 
-  pub between-lower : (b n : ℕ) → b ≤ n → ((i : ℕ) → i < b → f i ≡ false) → between f 0 n ≡ between f b n
-  between-lower zero n l h = refl
-  between-lower (suc b) n l h =
-      between-lower b n (omega arith) (λ i k. h i (omega arith)) ∙ between-skip b n l (h b (omega arith)) ∙ ap (λ (x : ℕ). between f x n) (add-one b)
+  pub between-hop : (a b n : ℕ) → a ≤ b → b ≤ n → ((i : ℕ) → a ≤ i → i < b → f i ≡ false) → between f a n ≡ between f b n
+  between-hop a b n l k h =
+      let x : a + (b - a) ≡ b = omega arith in
+      go (b - a) (omega arith) (λ i c d. h i c (omega arith)) ∙ ap (λ (y : ℕ). between f y n) x
+    where
+      go : (m : ℕ) → a + m ≤ n → ((i : ℕ) → a ≤ i → i < a + m → f i ≡ false) → between f a n ≡ between f (a + m) n
+      go zero c h = rw add-zero
+      go (suc m) c h =
+          let x : a + m + 1 ≡ a + suc m = omega arith in
+          go m (omega arith) (λ i d e. h i d (omega arith)) ∙ between-skip (a + m) n (omega arith) (h (a + m) (omega arith) (omega arith)) ∙ ap (λ (y : ℕ). between f y n) x
 
   -- ---- one number more at the end
 

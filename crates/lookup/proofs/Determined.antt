@@ -1,10 +1,10 @@
--- What the contracts of `end_of`, `child_before` and `next_element` say leaves one answer. Assumes nothing.
+-- What the contracts of `end_of`, `after` and `next_element` say leaves one answer. Assumes nothing.
 use Prim.Native.Nat.{ℕ, _<_}
-use mathlib.Core.Path.{_≡_, refl, sym, ap, _∙_}
+use mathlib.Core.Path.{_≡_, refl, sym, _∙_}
 use mathlib.Core.List.{List}
 use native.Mathlib.Omega.{arith}
 use Rattle.format.specs.declared.Entry.{Entry}
-use Rattle.lookup.specs.Table.{Run, Child, LastChild, found}
+use Rattle.lookup.specs.Table.{Run, found}
 use Rattle.lookup.specs.Values.{Element, Follows}
 use Rattle.lookup.specs.declared.Found.{Found}
 use Rattle.lookup.specs.declared.Found.the-variants.{At, Nothing}
@@ -26,15 +26,6 @@ module _ (e : ℕ → Entry) (n p : ℕ) where
 
   pub run-one : (r q : ℕ) → Run e n p r → Run e n p q → r ≡ q
   run-one r q a b = omega (arith, not-before r q a b, not-before q r b a)
-
-  later-child : (r i j : ℕ) → Child e p r i → Child e p r j → i < j → ⊥
-  later-child r i j a b l = a .last j l (b .high) (b .own)
-
-  pub child-one : (r : ℕ) (a b : Found) → LastChild e p r a → LastChild e p r b → a ≡ b
-  child-one r (At i) (At j) a b = ap At (omega (arith, later-child r i j a b, later-child r j i b a))
-  child-one r (At i) Nothing a b = absurd (omega (arith, a .low, a .high))
-  child-one r Nothing (At j) a b = absurd (omega (arith, b .low, b .high))
-  child-one r Nothing Nothing a b = refl
 
 pub next-one : (es : List Entry) (p i : ℕ) (a b : Found) → Element es p i → Follows es p i a → Follows es p i b → a ≡ b
 next-one es p i a b x f g = found-one a b (f (x .file) (x .number) (x .is) ∙ sym (g (x .file) (x .number) (x .is)))

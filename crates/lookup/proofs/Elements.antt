@@ -16,12 +16,12 @@ use Rattle.format.proofs.Puts.{step, put-some}
 use Rattle.format.specs.Bytes.{same}
 use Rattle.format.specs.Values.{Value, level, list, Slot, named, unnamed, putNamed, putUnnamed, put, nameOf, slotsOf, collapse, elements, spread, valueFrom, valueIf, leaf}
 use Rattle.format.specs.declared.Entry.{Entry}
-use Rattle.lookup.specs.Table.{firsts, Ordered, found}
+use Rattle.lookup.specs.Table.{firsts, Ordered, Run, found}
 use Rattle.lookup.specs.Values.{onlyUnnamed, unnamedIn, elementsFrom, elementsOf, Element, unnamedChild, kids, headOf, listAt}
 use Rattle.lookup.specs.declared.Found.{Found}
 use Rattle.lookup.specs.declared.Found.the-variants.{At, Nothing}
-use Rattle.lookup.proofs.Rows.{slots-more, slots-start, getElem-firsts, child-after}
-use Rattle.lookup.proofs.Between.{nil-not, Picked, between-here, between-skip, between-end, between-none, between-lower, between-last, between-zero, between-short, between-split}
+use Rattle.lookup.proofs.Rows.{slots-more, slots-start, getElem-firsts, child-after, hop}
+use Rattle.lookup.proofs.Between.{nil-not, Picked, between-here, between-skip, between-end, between-none, between-hop, between-last, between-zero, between-short, between-split}
 use Rattle.lookup.proofs.Search.{is-at, is-nothing}
 use Rattle.lookup.proofs.Lists.{no-name, some-name, unnamed-more, collapse-is}
 
@@ -52,6 +52,11 @@ module _ (e : ℕ → Entry) (p : ℕ) where
   unfolding kids
   kids-none i n h = between-none _ i n (λ k a b. child-other p (e k) (h k a b))
 
+  -- none below an entry from p on
+  pub kids-hop : (n i j : ℕ) → p ≤ i → Run e n (i + 1) j → kids e p (i + 1) n ≡ kids e p j n
+  unfolding kids
+  kids-hop n i j l r = between-hop _ (i + 1) j n (r .below .low) (r .below .high) (λ k a b. child-other p (e k) (hop e n p i j l r k a b))
+
 -- as the code has it: r is entry i
 module _ (e : ℕ → Entry) (p i n : ℕ) (r : Entry) (q : r ≡ e i) (l : i < n) where
   pub kid-yes : r .parent ≡ p → r .units ≡ 0 → kids e p i n ≡ i ∷ kids e p (i + 1) n
@@ -81,7 +86,7 @@ kid-rest e p n k ys t = t .rest ∙ ap (λ (x : ℕ). kids e p x n) (sym (add-on
 -- entries come after their parent
 pub kids-own : (e : ℕ → Entry) (p n : ℕ) → Ordered e n → p ≤ n → kids e p 0 n ≡ kids e p p n
 unfolding kids
-kids-own e p n o l = between-lower _ p n l (λ i k. child-other p (e i) (child-after e n p o i (omega arith) k))
+kids-own e p n o l = between-hop _ 0 p n (omega arith) l (λ i a k. child-other p (e i) (child-after e n p o i (omega arith) k))
 
 -- ---- the unnamed slot is the kids
 

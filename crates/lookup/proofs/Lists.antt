@@ -17,10 +17,10 @@ use Rattle.format.specs.Text.{units, lossy, replacedAfter}
 use Rattle.format.specs.Trees.{mostDepth}
 use Rattle.format.specs.Values.{Value, level, list, Slot, named, unnamed, putNamed, putUnnamed, put, nameOf, slotsOf, collapse, elements, valueAt, valueFrom, valueIf, leaf, asLevel}
 use Rattle.format.specs.declared.Entry.{Entry}
-use Rattle.lookup.specs.Table.{firsts, Ordered}
+use Rattle.lookup.specs.Table.{firsts, Ordered, Run}
 use Rattle.lookup.specs.Values.{onlyUnnamed, unnamedIn, elementsFrom, meaning}
 use Rattle.lookup.specs.declared.ClxValue.the-variants as clx
-use Rattle.lookup.proofs.Rows.{slots-more, getElem-firsts, slots-low, slots-until}
+use Rattle.lookup.proofs.Rows.{slots-more, getElem-firsts, slots-low, slots-until, hop}
 
 -- ---- names that are empty, and that are not
 
@@ -145,6 +145,12 @@ plain-more s p e seen i h q z =
     let m = slots-unnamed s p e i q z in
     let w : putUnnamed i (slotsOf s (firsts i e) p) ≡ wrap (is ++ i ∷ []) = ap (putUnnamed i) (h .alone) ∙ wrap-more i is in
     record { alone = rw (m, unnamed-more) w; is = sym (ap onlyUnnamed (m ∙ w) ∙ only-more i is) }
+
+-- past all that lies below an entry from p on
+pub plain-hop : (s : List ℕ) (p n : ℕ) (e : ℕ → Entry) (seen : Bool) (i j : ℕ) → p ≤ i → Run e n (i + 1) j → Plain s p e seen (i + 1) → Plain s p e seen j
+plain-hop s p n e seen i j l r h =
+    let x = slots-until s p (i + 1) j e (r .below .low) (hop e n p i j l r) in
+    record { alone = rw x (h .alone); is = rw x (h .is) }
 
 -- ---- values
 

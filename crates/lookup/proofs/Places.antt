@@ -16,8 +16,8 @@ use Rattle.format.specs.declared.Entry.{Entry}
 use Rattle.lookup.specs.Table.{firsts, Ordered, Run, lastNamed}
 use Rattle.lookup.specs.Values.{unnamedIn}
 use Rattle.lookup.specs.Walks.{isNone, leads, leadsIn, slotFor, slotAt, slotsAt}
-use Rattle.lookup.proofs.Between.{between-here, between-skip, between-none, between-lower, between-last, between-zero}
-use Rattle.lookup.proofs.Rows.{slots-start, slots-more, child-after}
+use Rattle.lookup.proofs.Between.{between-here, between-skip, between-none, between-hop, between-last, between-zero}
+use Rattle.lookup.proofs.Rows.{slots-start, slots-more, child-after, hop}
 
 -- ---- Bool
 
@@ -258,11 +258,16 @@ module _ (s : List ℕ) (e : ℕ → Entry) (p : ℕ) where
   -- none before the level's first entry, and none past its run
   pub leads-low : (n : ℕ) → Ordered e n → p ≤ n → leadsIn s e p 0 n ≡ leadsIn s e p p n
   unfolding leadsIn
-  leads-low n o l = between-lower (leads s e p) p n l (λ i k. leads-other i (child-after e n p o i (omega arith) k))
+  leads-low n o l = between-hop (leads s e p) 0 p n (omega arith) l (λ i a k. leads-other i (child-after e n p o i (omega arith) k))
 
   pub leads-past : (n r i : ℕ) → Run e n p r → r ≤ i → leadsIn s e p i n ≡ []
   unfolding leadsIn
   leads-past n r i q l = between-none (leads s e p) i n (λ k a b. leads-other k (q .over k (omega arith) b))
+
+  -- none below an entry from p on
+  pub leads-hop : (n i j : ℕ) → p ≤ i → Run e n (i + 1) j → leadsIn s e p (i + 1) n ≡ leadsIn s e p j n
+  unfolding leadsIn
+  leads-hop n i j l r = between-hop (leads s e p) (i + 1) j n (r .below .low) (r .below .high) (λ k a b. leads-other k (hop e n p i j l r k a b))
 
   -- as the code has it: r is entry i
   module _ (i : ℕ) (r : Entry) (q : r ≡ e i) where
@@ -289,6 +294,9 @@ module _ (s : List ℕ) (e : ℕ → Entry) (n p : ℕ) where
 
   pub placed-skip : (i k : ℕ) → Placed s e n p i k → i < n → leads s e p i ≡ false → Placed s e n p (i + 1) k
   placed-skip i k h l b = record { few = omega (arith, h .few); rest = omega (arith, h .rest, ap length (leads-skip s e p i n l b)) }
+
+  pub placed-hop : (i j k : ℕ) → p ≤ i → Run e n (i + 1) j → Placed s e n p (i + 1) k → Placed s e n p j k
+  placed-hop i j k l r h = record { few = omega (arith, h .few, r .below .low); rest = omega (arith, h .rest, ap length (leads-hop s e p n i j l r)) }
 
   pub placed-end : (r i k : ℕ) → Placed s e n p i k → Run e n p r → r ≤ i → k ≡ length (slotsOf s (firsts n e) p)
   placed-end r i k h q l = omega (arith, h .rest, ap length (leads-past s e p n r i q l))

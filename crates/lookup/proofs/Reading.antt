@@ -1,12 +1,12 @@
 -- The table that a tree was read into has what the lookups ask of it. Assumes nothing.
 use Prim.Native.Nat.{ℕ, zero, suc, _+_, _/_, _^_, _≤_, _<_}
 use mathlib.Core.Path.{_≡_, sym, ap, _∙_, subst}
-use mathlib.Core.Option.{some}
+use mathlib.Core.Option.{some, Option·some-injective}
 use mathlib.Core.List.{List, [], _∷_, _++_}
 use native.Mathlib.Omega.{arith}
 use lib.ListN.{length, getElem?, length-append, length-take, length-drop}
 use Rattle.format.proofs.Answers.{none≢some}
-use Rattle.format.proofs.Forest.{Forest, forest-placed, forest-nested, tree-forest}
+use Rattle.format.proofs.Forest.{Forest, forest-placed, forest-nested, forest-rising, forest-inside, forest-outside, tree-forest}
 use Rattle.format.proofs.Suffices.{suffices}
 use Rattle.format.proofs.Tables.{length-table, entries-back}
 use Rattle.format.specs.Table.{AllFit}
@@ -63,14 +63,18 @@ tree-ready s r es ys small within few t =
                       record {
                         older = λ i l. let h = forest-placed 0 0 es i _ g (omega arith) (entry i l) .old in omega arith;
                         nested = λ p i k a b c d e. forest-nested 0 0 es p i k _ _ g (omega arith) (entry i (omega arith)) (entry k c) b (omega arith) d e;
+                        rising = λ i k a b. forest-rising es i k _ _ g a (entry i (omega arith)) (entry k b);
+                        inside = λ i k a b c. forest-inside 0 0 es i k _ _ g (omega arith) a (entry i (omega arith)) (entry k b) (between i k b c);
+                        outside = λ i k a b c. forest-outside 0 0 es i k _ _ g (omega arith) a (entry i (omega arith)) (entry k b) (omega arith);
                       };
+                  short = λ i l. let h = entered-at (length s) (length es) es i _ f (entry i l) .lies .value in omega arith;
                 };
             lie = λ i l. entered-at (length s) (length es) es i _ f (entry i l) .lies;
           };
       entries = back;
     }
   where
-    g : Forest 0 0 es
+    g : Forest (r .start + 0) (r .start + length (dataIn s r)) 0 0 es
     g = tree-forest s r es t
 
     data-length : r .start + length (dataIn s r) ≤ length s
@@ -84,6 +88,12 @@ tree-ready s r es ys small within few t =
 
     entry : (i : ℕ) → i < length es → getElem? es i ≡ some (entryIn (tableBytes es ++ ys) i)
     entry i l = ap (λ (x : List Entry). getElem? x i) (sym back) ∙ getElem-firsts (length es) (entryIn (tableBytes es ++ ys)) i l
+
+    between : (i k : ℕ) → k < length es → ((j : ℕ) → i < j → j ≤ k → i < entryIn (tableBytes es ++ ys) j .parent) → (j : ℕ) (z : Entry) → i < j → j ≤ k
+        → getElem? es j ≡ some z → 0 + i < z .parent
+    between i k l h j z a b q =
+        let w : entryIn (tableBytes es ++ ys) j ≡ z = Option·some-injective _ z (sym (entry j (omega arith)) ∙ q) in
+        rw (← w) (omega (arith, h j a b))
 
 -- a tree that was read whole in a part of a file, at the front of a table
 pub holds-read : (s : List ℕ) (r : Range) (es : List Entry) (p n : ℕ) (t : List ℕ) → length s < 2 ^ 64 → r .start + r .len ≤ length s

@@ -1,4 +1,4 @@
--- Laws of a row of entries: the first n of them, those below a level, and the way back from an entry to a child. Assumes nothing.
+-- Laws of a row of entries: the first n of them, those below a level, and where these end. Assumes nothing.
 use Prim.Native.Nat.{ℕ, zero, suc, _+_, _-_, _≤_, _<_}
 use mathlib.Core.Path.{_≡_, refl, sym, ap, _∙_}
 use mathlib.Core.Option.{some}
@@ -11,7 +11,7 @@ use lib.ListN.{length, getElem?, length-append}
 use Rattle.format.proofs.Puts.{step, slots-none, slots-last}
 use Rattle.format.specs.Values.{slotsOf}
 use Rattle.format.specs.declared.Entry.{Entry}
-use Rattle.lookup.specs.Table.{firsts, Ordered, Below, Child}
+use Rattle.lookup.specs.Table.{firsts, Ordered, Below, Run, Split}
 
 -- ---- the first n
 
@@ -90,32 +90,81 @@ module _ (e : ℕ → Entry) (n p : ℕ) where
   pub below-less : (r i : ℕ) → Below e n p r → p ≤ i → i ≤ r → Below e n p i
   below-less r i h l m = record { low = l; high = omega (arith, h .high); inner = λ k a b. h .inner k a (omega arith) }
 
--- ---- the way back to a child: from i on no child comes before r
+-- ---- where a run ends
 
-pub record Back (e : ℕ → Entry) (n p r i : ℕ) : Type 0 where
-  pub below : Below e n p r
-  pub low : p ≤ i
-  pub high : i < r
-  pub last : (k : ℕ) → i < k → k < r → e k .parent ≡ p → ⊥
+pub run-whole : (e : ℕ → Entry) (n : ℕ) → Run e n 0 n
+run-whole e n =
+    record {
+      below = record { low = omega arith; high = omega arith; inner = λ k a b. omega arith };
+      stop = λ l. absurd (omega arith);
+      over = λ k a b z. omega arith;
+    }
 
-pub back-start : (e : ℕ → Entry) (n p r : ℕ) → Below e n p r → p < r → Back e n p r (r - 1)
-back-start e n p r h l = record { below = h; low = omega arith; high = omega arith; last = λ k a b z. omega arith }
+module _ (e : ℕ → Entry) (n i : ℕ) (o : Ordered e n) where
+  -- entry r ends what lies below entry i
+  run-at : (r : ℕ) → Below e n (i + 1) r → (r < n → e r .parent < i + 1) → Run e n (i + 1) r
+  run-at r b h = record { below = b; stop = h; over = λ k l m z. o .nested (i + 1) r k (b .low) l m (h (omega arith)) z }
 
-module _ (e : ℕ → Entry) (n p r i : ℕ) (h : Back e n p r i) where
-  pub back-found : e i .parent ≡ p → Child e p r i
-  back-found z = record { low = h .low; high = h .high; own = z; last = h .last }
+  -- nothing lies below entry i
+  pub run-none : i < n → (i + 1 < n → e (i + 1) .parent < i + 1) → Run e n (i + 1) (i + 1)
+  run-none l h = run-at (i + 1) (below-none e n (i + 1) (omega arith)) h
 
-  pub back-above : (e i .parent ≡ p → ⊥) → p < e i .parent
-  back-above z = let x = h .below .inner i (h .low) (h .high) in omega (arith, z)
-
-  pub back-up : Ordered e n → (e i .parent ≡ p → ⊥) → Back e n p r (e i .parent - 1)
-  back-up o z =
-      let x = back-above z in
-      let y = o .older i (omega (arith, h .high, h .below .high)) in
-      record { below = h .below; low = omega arith; high = omega (arith, h .high); last = λ k a b w. go k a b w (decLt i k) }
+  -- what lies below entry i has its name in the value
+  pub run-split : (r : ℕ) → i < n → Split e (i + 1) n (e i .value + e i .size) r → Run e n (i + 1) r
+  run-split r l q = run-at r below (λ m. stop m (decLt (e r .parent) (i + 1)))
     where
-      go : (k : ℕ) → e i .parent - 1 < k → k < r → e k .parent ≡ p → Dec (i < k) → ⊥
-      go k a b w (yes l) = h .last k l b w
-      go k a b w (no l) =
-          let x = back-above z in
-          o .nested (e i .parent) k i (omega (arith, x)) (omega (arith, l)) (omega (arith, h .high, h .below .high)) (omega (arith, w, x)) refl
+      inner : (k : ℕ) → i + 1 ≤ k → k < r → i + 1 ≤ e k .parent
+      inner k a b = go (decLt (e k .parent) (i + 1))
+        where
+          go : Dec (e k .parent < i + 1) → i + 1 ≤ e k .parent
+          go (yes y) = absurd (let x = o .outside i k (omega arith) (omega (arith, q .high)) (omega arith) in let z = q .by k a b in omega arith)
+          go (no y) = omega (arith, y)
+
+      below : Below e n (i + 1) r
+      below = record { low = q .low; high = q .high; inner = inner }
+
+      stop : r < n → Dec (e r .parent < i + 1) → e r .parent < i + 1
+      stop m (yes y) = y
+      stop m (no y) = absurd (let x = o .inside i r (omega (arith, q .low)) m all in let z = q .behind m in omega arith)
+        where
+          all : (j : ℕ) → i < j → j ≤ r → i < e j .parent
+          all j a b = go (decLt j r)
+            where
+              go : Dec (j < r) → i < e j .parent
+              go (yes w) = omega (arith, inner j (omega arith) w)
+              go (no w) = let z : j ≡ r = omega (arith, w) in rw z (omega (arith, y))
+
+-- none of what lies below an entry from p on is a child of p
+pub hop : (e : ℕ → Entry) (n p i j : ℕ) → p ≤ i → Run e n (i + 1) j → (k : ℕ) → i + 1 ≤ k → k < j → e k .parent ≡ p → ⊥
+hop e n p i j l r k a b z = omega (arith, r .below .inner k a b)
+
+-- what lies below an entry of a run lies in the run
+pub run-inside : (e : ℕ → Entry) (n p r i j : ℕ) → Run e n p r → p ≤ i → i < r → Run e n (i + 1) j → j ≤ r
+run-inside e n p r i j a l m b = go (decLt r j)
+  where
+    go : Dec (r < j) → j ≤ r
+    go (yes y) = absurd (let x = a .stop (omega (arith, b .below .high)) in let z = b .below .inner r (omega arith) y in omega arith)
+    go (no y) = omega (arith, y)
+
+-- ---- names rise
+
+module _ (e : ℕ → Entry) (n : ℕ) (o : Ordered e n) where
+  -- by one entry's name are those before it
+  pub by-before : (p i to : ℕ) → i < n → e i .name ≤ to → (k : ℕ) → p ≤ k → k < i + 1 → e k .name ≤ to
+  by-before p i to l h k a b = go (decLt k i)
+    where
+      go : Dec (k < i) → e k .name ≤ to
+      go (yes y) = let x = o .rising k i y l in omega arith
+      go (no y) = let x : k ≡ i = omega (arith, y) in rw x h
+
+  pub split-less : (p i m to r : ℕ) → i ≤ m → m ≤ n → ((k : ℕ) → p ≤ k → k < i → e k .name ≤ to) → p ≤ i → (m < n → to < e m .name) → Split e i m to r → Split e p n to r
+  split-less p i m to r a b f c g q =
+      record { low = omega (arith, q .low); high = omega (arith, q .high); by = λ k x y. by k x y (decLt k i); behind = λ l. behind l (decLt r m) }
+    where
+      by : (k : ℕ) → p ≤ k → k < r → Dec (k < i) → e k .name ≤ to
+      by k x y (yes z) = f k x z
+      by k x y (no z) = q .by k (omega (arith, z)) y
+
+      behind : r < n → Dec (r < m) → to < e r .name
+      behind l (yes z) = q .behind z
+      behind l (no z) = let x : r ≡ m = omega (arith, z, q .high) in rw x (g (omega arith))

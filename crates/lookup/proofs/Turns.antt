@@ -1,7 +1,7 @@
 -- Laws of the value of a place, as the code finds it, and of a walk over child levels. Assumes nothing.
 use Prim.Native.Nat.{ℕ, zero, suc, _+_, _≤_, _<_}
 use mathlib.Core.Path.{_≡_, refl, sym, ap, _∙_, subst}
-use mathlib.Core.Bool.{true, false}
+use mathlib.Core.Bool.{Bool, true, false}
 use mathlib.Core.Option.{Option, none, some}
 use mathlib.Core.List.{List, [], _∷_}
 use native.Mathlib.Numerals.{add-one}
@@ -15,7 +15,7 @@ use Rattle.format.specs.Values.{level, list, Slot, unnamed, nameOf, slotsOf, fi
 use Rattle.format.specs.declared.Entry.{Entry}
 use Rattle.lookup.specs.Table.{firsts, Ordered, Run, lastNamed}
 use Rattle.lookup.specs.Values.{kids, headOf, elementsOf, meaning, fieldMeaning}
-use Rattle.lookup.specs.Walks.{leads, leadsIn, namedOr, slotFor, slotAt, slotsAt, placeLevels, restOf, Standing, Walk, leftOf, Behind, NextOf}
+use Rattle.lookup.specs.Walks.{leads, leadsIn, AllLead, namedOr, slotFor, slotAt, slotsAt, placeLevels, restOf, Standing, Walk, leftOf, Behind, NextOf}
 use Rattle.lookup.specs.declared.ClxValue.{ClxValue}
 use Rattle.lookup.specs.declared.ClxValue.the-variants as clx
 use Rattle.lookup.specs.declared.Field.{Field}
@@ -27,7 +27,7 @@ use Rattle.lookup.proofs.ClxValue.{the-type}
 use Rattle.lookup.proofs.Lists.{no-name, some-name}
 use Rattle.lookup.proofs.Search.{find-run}
 use Rattle.lookup.proofs.Elements.{kids-split, kid-rest, unnamed-kids, head-kids, none-kids, get-drop, get-less}
-use Rattle.lookup.proofs.Places.{slots-at, leads-low, leads-past, leads-here, leads-skip}
+use Rattle.lookup.proofs.Places.{slots-at, leads-low, leads-past, leads-here, leads-skip, leads-hop}
 
 -- ---- the only unnamed child
 
@@ -95,10 +95,17 @@ module _ (s : List ℕ) (e : ℕ → Entry) (n p : ℕ) where
   unfolding levelsIn addLevel
   levels-none i l h k = levels-at i _ (leads-here s e p i n l h) ∙ ap (λ (o : Option ℕ). addLevel o (placeLevels s e n p (i + 1))) (sym k)
 
-  pub levels-some : (i j : ℕ) → i < n → leads s e p i ≡ true → some j ≡ asLevel (some (slotValue s (firsts n e) (slotAt s e n p i)))
+  levels-some : (i j : ℕ) → i < n → leads s e p i ≡ true → some j ≡ asLevel (some (slotValue s (firsts n e) (slotAt s e n p i)))
       → placeLevels s e n p i ≡ j ∷ placeLevels s e n p (i + 1)
   unfolding levelsIn addLevel
   levels-some i j l h k = levels-at i _ (leads-here s e p i n l h) ∙ ap (λ (o : Option ℕ). addLevel o (placeLevels s e n p (i + 1))) (sym k)
+
+  pub levels-hop : (i j : ℕ) → p ≤ i → Run e n (i + 1) j → placeLevels s e n p (i + 1) ≡ placeLevels s e n p j
+  levels-hop i j l r = levels-at (i + 1) _ (leads-hop s e p n i j l r)
+
+  pub levels-found : (i j m : ℕ) → i < n → leads s e p i ≡ true → some j ≡ asLevel (some (slotValue s (firsts n e) (slotAt s e n p i))) → p ≤ i
+      → Run e n (i + 1) m → placeLevels s e n p i ≡ j ∷ placeLevels s e n p m
+  levels-found i j m l h k a r = levels-some i j l h k ∙ ap (λ (x : List ℕ). j ∷ x) (levels-hop i m a r)
 
   pub levels-past : (r i : ℕ) → Run e n p r → r ≤ i → placeLevels s e n p i ≡ []
   unfolding levelsIn
@@ -185,12 +192,12 @@ module _ (s : List ℕ) (e : ℕ → Entry) (n : ℕ) (f : Field) where
   unfolding childLevels
   walk-absent h = record { good = tt; rest = ap (childLevels s (firsts n e)) (absent-of s (firsts n e) f h) }
 
-  pub walk-level : (v : ClxValue) (i r : ℕ) → f ≡ Is v → v ≡ clx.Level i → Ordered e n → Run e n (i + 1) r
-      → Walk s e n (childLevels s (firsts n e) (fieldMeaning s (firsts n e) f)) (turn.Places (i + 1) r (i + 1))
+  pub walk-level : (v : ClxValue) (i r : ℕ) (b : Bool) → f ≡ Is v → v ≡ clx.Level i → Ordered e n → Run e n (i + 1) r → (b ≡ true → AllLead s e (i + 1) r)
+      → Walk s e n (childLevels s (firsts n e) (fieldMeaning s (firsts n e) f)) (turn.Places (i + 1) r b (i + 1))
   unfolding childLevels
-  walk-level v i r h k o q =
+  walk-level v i r b h k o q a =
       record {
-        good = (q, omega arith);
+        good = (q, omega arith, a);
         rest =
             ap (childLevels s (firsts n e)) (level-of s (firsts n e) f v i h k)
             ∙ ap (λ (p : ℕ). levelsIn s (firsts n e) (slotsOf s (firsts n e) p)) (sym (add-one i))
@@ -226,13 +233,13 @@ module _ (s : List ℕ) (e : ℕ → Entry) (n p k : ℕ) where
   pub behind-next : (i : ℕ) → i < n → ((s : List ℕ) → some i ≡ getElem? (elementsOf s (firsts n e) p) (k + 1)) → Behind s e n p k (turn.Elements p (k + 1) i)
   behind-next i l h = record { walk = record { good = (l, λ s. sym (h s)); rest = refl }; less = omega arith }
 
-module _ (e : ℕ → Entry) (n : ℕ) (t : Turn) where
-  pub standing-places : (p r i : ℕ) → t ≡ turn.Places p r i → Standing e n t → Run e n p r × (p ≤ i)
-  standing-places p r i h g = subst (Standing e n) h g
+module _ (s : List ℕ) (e : ℕ → Entry) (n : ℕ) (t : Turn) where
+  pub standing-places : (p r : ℕ) (b : Bool) (i : ℕ) → t ≡ turn.Places p r b i → Standing s e n t → Run e n p r × (p ≤ i) × (b ≡ true → AllLead s e p r)
+  standing-places p r b i h g = subst (Standing s e n) h g
 
-  pub standing-elements : (p k i : ℕ) → t ≡ turn.Elements p k i → Standing e n t
+  pub standing-elements : (p k i : ℕ) → t ≡ turn.Elements p k i → Standing s e n t
       → (i < n) × ((s : List ℕ) → getElem? (elementsOf s (firsts n e) p) k ≡ some i)
-  standing-elements p k i h g = subst (Standing e n) h g
+  standing-elements p k i h g = subst (Standing s e n) h g
 
 module _ (s : List ℕ) (e : ℕ → Entry) (n : ℕ) (t : Turn) where
   pub rest-is : (l : List ℕ) (u : Turn) → l ≡ restOf s e n t → t ≡ u → l ≡ restOf s e n u

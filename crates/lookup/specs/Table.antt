@@ -1,5 +1,5 @@
 -- The entries that stand in a table, what a lookup may assume of them, and what a search answers.
-use Prim.Native.Nat.{ℕ, zero, suc, _+_, _-_, _*_, _≤_, _<_}
+use Prim.Native.Nat.{ℕ, zero, suc, _+_, _-_, _*_, _^_, _≤_, _<_}
 use mathlib.Core.Path.{_≡_}
 use mathlib.Core.Bool.{Bool, _&&_, cond}
 use mathlib.Core.Option.{Option, none, some}
@@ -36,15 +36,19 @@ pub record Lies (n : ℕ) (e : Entry) : Type 0 where
   pub fixed : (e .kind ≡ 8 → ⊥) → (e .kind ≡ 9 → ⊥) → (e .kind ≡ 11 → ⊥) → e .value + fixedLen (e .kind) ≤ n
 
 -- The first n of a row of entries stand in file order: each comes after its parent, and an entry from p on whose parent lies before p ends
--- the children of p.
+-- the children of p. Their names rise in the file; what lies below an entry has its name in that entry's value, and what comes after, behind it.
 pub record Ordered (e : ℕ → Entry) (n : ℕ) : Type 0 where
   pub older : (i : ℕ) → i < n → e i .parent ≤ i
   pub nested : (p i k : ℕ) → p ≤ i → i ≤ k → k < n → e i .parent < p → e k .parent ≡ p → ⊥
+  pub rising : (i k : ℕ) → i < k → k < n → e i .name < e k .name
+  pub inside : (i k : ℕ) → i < k → k < n → ((j : ℕ) → i < j → j ≤ k → i < e j .parent) → e k .name ≤ e i .value + e i .size
+  pub outside : (i k : ℕ) → i < k → k < n → e k .parent ≤ i → e i .value + e i .size < e k .name
 
--- a table has `used` entries in file order
+-- a table has `used` entries in file order, whose values end before 2^64
 pub record Rows (table : List ℕ) (used : ℕ) : Type 0 where
   pub room : 48 * used ≤ length table
   pub order : Ordered (entryIn table) used
+  pub short : (i : ℕ) → i < used → entryIn table i .value + entryIn table i .size < 2 ^ 64
 
 -- and each of them lies in the file
 pub record Holds (file table : List ℕ) (used : ℕ) : Type 0 where
@@ -65,6 +69,13 @@ pub record Run (e : ℕ → Entry) (n p r : ℕ) : Type 0 where
   pub stop : r < n → e r .parent < p
   pub over : (k : ℕ) → r ≤ k → k < n → e k .parent ≡ p → ⊥
 
+-- of the entries from p up to n, those before r have their names by `to`, and entry r behind it
+pub record Split (e : ℕ → Entry) (p n to r : ℕ) : Type 0 where
+  pub low : p ≤ r
+  pub high : r ≤ n
+  pub by : (k : ℕ) → p ≤ k → k < r → e k .name ≤ to
+  pub behind : r < n → to < e r .name
+
 -- ---- what a search answers
 
 unfoldable pub found : Found → Option ℕ
@@ -76,18 +87,11 @@ abbrev pub Within : ℕ → Found → Type 0
 Within n (At i) = i < n
 Within n Nothing = Unit
 
--- j is the last child of p before r
-pub record Child (e : ℕ → Entry) (p r j : ℕ) : Type 0 where
-  pub low : p ≤ j
-  pub high : j < r
-  pub own : e j .parent ≡ p
-  pub last : (k : ℕ) → j < k → k < r → e k .parent ≡ p → ⊥
-
-abbrev pub LastChild : (ℕ → Entry) → ℕ → ℕ → Found → Type 0
-LastChild e p r (At j) = Child e p r j
-LastChild e p r Nothing = r ≤ p
+-- whether entry i is a child of p with the name
+abbrev pub childNamed : List ℕ → (ℕ → Entry) → ℕ → List ℕ → ℕ → Bool
+childNamed s e p name i = eqb (e i .parent) p && same name (nameOf s (e i))
 
 -- the last child of p with the name, before r
 unfoldable pub lastNamed : List ℕ → (ℕ → Entry) → ℕ → List ℕ → ℕ → Option ℕ
 lastNamed s e p name zero = none
-lastNamed s e p name (suc r) = cond (eqb (e r .parent) p && same name (nameOf s (e r))) (some r) (lastNamed s e p name r)
+lastNamed s e p name (suc r) = cond (childNamed s e p name r) (some r) (lastNamed s e p name r)

@@ -19,6 +19,7 @@ use crate::list::first_element;
 use crate::list::next_element;
 use crate::place::count_places;
 use crate::place::next_place;
+use crate::plain::all_lead;
 use crate::value::level_at;
 
 // How many elements or entries a field has.
@@ -38,10 +39,11 @@ pub fn size_of(file: &[u8], table: &[u8], used: usize, f: Field) -> u64
 }
 
 // The start of a walk over the child levels of a field.
-pub fn children(table: &[u8], used: usize, f: Field) -> Turn
-    requires { ⌜ Rows (now table) used × FieldInside used f ⌝ }
-    ensures { λ r. ⌜ ((s : List ℕ) → Walk s (entryIn (now (table .entry))) used
-        (childLevels s (entriesIn (now (table .entry)) used) (fieldMeaning s (entriesIn (now (table .entry)) used) f)) r) ⌝ }
+pub fn children(file: &[u8], table: &[u8], used: usize, f: Field) -> Turn
+    requires { ⌜ Holds (now file) (now table) used × FieldInside used f ⌝ }
+    ensures { λ r. ⌜ Walk (now (file .entry)) (entryIn (now (table .entry))) used
+        (childLevels (now (file .entry)) (entriesIn (now (table .entry)) used)
+        (fieldMeaning (now (file .entry)) (entriesIn (now (table .entry)) used) f)) r ⌝ }
 {
     let Field::Is(v) = f else {
         return Turn::Over;
@@ -50,9 +52,11 @@ pub fn children(table: &[u8], used: usize, f: Field) -> Turn
         ClxValue::Level(i) => {
             let parent = i + 1;
             let end = end_of(table, used, parent);
+            let plain = all_lead(file, table, used, parent, end);
             Turn::Places {
                 parent,
                 end,
+                plain,
                 at: parent,
             }
         }
@@ -88,7 +92,7 @@ fn after_element(table: &[u8], used: usize, parent: usize, before: u64, i: usize
 
 // The next child level.
 pub fn next_child(file: &[u8], table: &[u8], used: usize, t: Turn) -> Next
-    requires { ⌜ Holds (now file) (now table) used × Standing (entryIn (now table)) used t ⌝ }
+    requires { ⌜ Holds (now file) (now table) used × Standing (now file) (entryIn (now table)) used t ⌝ }
     ensures { λ r. ⌜ NextOf (now (file .entry)) (entryIn (now (table .entry))) used (restOf (now (file .entry)) (entryIn (now (table .entry))) used t) r ⌝ }
 {
     let mut walk = t;
@@ -97,8 +101,13 @@ pub fn next_child(file: &[u8], table: &[u8], used: usize, t: Turn) -> Next
             Turn::Over => {
                 return Next::End;
             }
-            Turn::Places { parent, end, at } => {
-                return next_place(file, table, used, parent, end, at);
+            Turn::Places {
+                parent,
+                end,
+                plain,
+                at,
+            } => {
+                return next_place(file, table, used, parent, end, plain, at);
             }
             Turn::Elements { parent, before, at } => {
                 let rest = after_element(table, used, parent, before, at);

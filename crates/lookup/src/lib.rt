@@ -4,10 +4,12 @@
 
 pub mod child;
 pub mod entry;
+mod hash;
 pub mod level;
 pub mod list;
 pub mod named;
 pub mod place;
+mod plain;
 pub mod value;
 
 // An entry that a search found.
@@ -37,10 +39,11 @@ pub enum Field {
 
 // Where a walk over child levels stands.
 pub enum Turn {
-    // in a level whose run ends at `end`: at the places from entry `at` on
+    // in a level whose run ends at `end`: at the places from entry `at` on; in a plain one no name comes twice
     Places {
         parent: usize,
         end: usize,
+        plain: bool,
         at: usize,
     },
     // in a list: at element number `before`, which is entry `at`

@@ -6,6 +6,7 @@ ghost use lib.ListN.{length};
 ghost use Rattle.lookup.specs.Table.{entryIn, entriesIn, Rows, found, Within};
 ghost use Rattle.lookup.specs.Values.{kids, headOf, listAt, elementsOf, Element, Follows};
 use crate::Found;
+use crate::entry::after;
 use crate::entry::entry_at;
 use crate::entry::parent_at;
 use crate::value::is_list;
@@ -28,7 +29,7 @@ pub fn next_unnamed(table: &[u8], used: usize, parent: usize, from: usize) -> Fo
                 return Found::At(i);
             }
         }
-        i += 1;
+        i = after(table, used, i);
     }
     Found::Nothing
 }
@@ -81,7 +82,7 @@ pub fn next_element(table: &[u8], used: usize, parent: usize, i: usize) -> Found
     let mut k = i;
     loop {
         let p = parent_at(table, k);
-        match next_unnamed(table, used, p, k + 1) {
+        match next_unnamed(table, used, p, after(table, used, k)) {
             Found::At(j) => {
                 return Found::At(j);
             }

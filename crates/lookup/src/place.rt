@@ -1,25 +1,29 @@
 // The places of a level: its children that are the first of their name.
 ghost use mathlib.Core.Path.{_≡_};
+ghost use mathlib.Core.Bool.{true};
 ghost use Prim.Native.Nat.{ℕ, _≤_, _<_};
 ghost use mathlib.Core.List.{List};
 ghost use mathlib.Core.Option.{some};
 ghost use lib.ListN.{length};
-ghost use Rattle.format.specs.Values.{slotsOf, slotValue, unnamed, asLevel};
-ghost use Rattle.lookup.specs.Table.{entryIn, entriesIn, Rows, Holds, Below, Run, found, Within};
+ghost use Rattle.format.specs.Values.{nameOf, slotsOf, slotValue, unnamed, asLevel};
+ghost use Rattle.lookup.specs.Table.{entryIn, entriesIn, Rows, Holds, Run, found, Within, lastNamed};
 ghost use Rattle.lookup.specs.Values.{kids};
-ghost use Rattle.lookup.specs.Walks.{leads, slotAt, placeLevels, NextOf};
+ghost use Rattle.lookup.specs.Walks.{leads, Leading, AllLead, slotAt, placeLevels, NextOf};
 use crate::Found;
 use crate::Next;
 use crate::Turn;
+use crate::entry::after;
 use crate::entry::end_of;
 use crate::entry::entry_at;
+use crate::entry::parent_at;
 use crate::list::next_unnamed;
 use crate::named::last_alike;
+use crate::plain::all_lead;
 use crate::value::level_at;
 
 // Whether entry i of a level's run is a child, and the first of its name.
 pub fn is_place(file: &[u8], table: &[u8], used: usize, parent: usize, i: usize) -> bool
-    requires { ⌜ Holds (now file) (now table) used × Below (entryIn (now table)) used parent i × (i < used) ⌝ }
+    requires { ⌜ Holds (now file) (now table) used × (parent ≤ i) × (i < used) ⌝ }
     ensures { λ r. ⌜ r ≡ leads (now (file .entry)) (entryIn (now (table .entry))) parent i ⌝ }
 {
     let e = entry_at(table, i);
@@ -29,7 +33,9 @@ pub fn is_place(file: &[u8], table: &[u8], used: usize, parent: usize, i: usize)
             table,
             used,
             parent,
+            parent,
             i,
+            Found::Nothing,
             e.name as usize,
             e.units as usize,
         ) {
@@ -41,19 +47,31 @@ pub fn is_place(file: &[u8], table: &[u8], used: usize, parent: usize, i: usize)
     }
 }
 
+// The same, where `plain` says that every child is the first of its name.
+fn leads_at(file: &[u8], table: &[u8], used: usize, parent: usize, plain: bool, i: usize) -> bool
+    requires { ⌜ Holds (now file) (now table) used × (parent ≤ i) × (i < used) × (plain ≡ true → Leading (now file) (entryIn (now table)) parent i) ⌝ }
+    ensures { λ r. ⌜ r ≡ leads (now (file .entry)) (entryIn (now (table .entry))) parent i ⌝ }
+{
+    if plain {
+        return parent_at(table, i) == parent;
+    }
+    is_place(file, table, used, parent, i)
+}
+
 // How many places a level has.
 pub fn count_places(file: &[u8], table: &[u8], used: usize, parent: usize) -> u64
     requires { ⌜ Holds (now file) (now table) used × (parent ≤ used) ⌝ }
     ensures { λ r. ⌜ r ≡ length (slotsOf (now (file .entry)) (entriesIn (now (table .entry)) used) parent) ⌝ }
 {
     let end = end_of(table, used, parent);
+    let plain = all_lead(file, table, used, parent, end);
     let mut n: u64 = 0;
     let mut i = parent;
     while i < end {
-        if is_place(file, table, used, parent, i) {
+        if leads_at(file, table, used, parent, plain, i) {
             n += 1;
         }
-        i += 1;
+        i = after(table, used, i);
     }
     n
 }
@@ -73,25 +91,50 @@ fn unnamed_level(table: &[u8], used: usize, parent: usize) -> Found
     }
 }
 
-// The level that the value of a place is: the last value of its name.
+// The last child with the name of entry i, which has one.
+fn last_of(file: &[u8], table: &[u8], used: usize, parent: usize, end: usize, i: usize) -> Found
+    requires { ⌜ Holds (now file) (now table) used × Run (entryIn (now table)) used parent end × (parent ≤ i) × (i < end)
+        × (entryIn (now table) i .parent ≡ parent) ⌝ }
+    ensures { λ r. ⌜ (found r ≡ lastNamed (now (file .entry)) (entryIn (now (table .entry))) parent
+        (nameOf (now (file .entry)) (entryIn (now (table .entry)) i)) end) × Within used r ⌝ }
+{
+    let e = entry_at(table, i);
+    last_alike(
+        file,
+        table,
+        used,
+        parent,
+        after(table, used, i),
+        end,
+        Found::At(i),
+        e.name as usize,
+        e.units as usize,
+    )
+}
+
+// The level that the value of a place is: the last value of its name. Where `plain` says that every child is the first of its name, its own.
 pub fn place_level(
     file: &[u8],
     table: &[u8],
     used: usize,
     parent: usize,
     end: usize,
+    plain: bool,
     i: usize,
 ) -> Found
-    requires { ⌜ Holds (now file) (now table) used × Run (entryIn (now table)) used parent end × (i < used) ⌝ }
+    requires { ⌜ Holds (now file) (now table) used × Run (entryIn (now table)) used parent end × (parent ≤ i) × (i < end)
+        × (entryIn (now table) i .parent ≡ parent) × (plain ≡ true → AllLead (now file) (entryIn (now table)) parent end) ⌝ }
     ensures { λ r. ⌜ (found r ≡ asLevel (some (slotValue (now (file .entry)) (entriesIn (now (table .entry)) used)
         (slotAt (now (file .entry)) (entryIn (now (table .entry))) used parent i)))) × Within used r ⌝ }
 {
     let e = entry_at(table, i);
-    let n = e.units as usize;
-    if n == 0 {
+    if e.units == 0 {
         return unnamed_level(table, used, parent);
     }
-    match last_alike(file, table, used, parent, end, e.name as usize, n) {
+    if plain {
+        return level_at(table, used, i);
+    }
+    match last_of(file, table, used, parent, end, i) {
         Found::Nothing => Found::Nothing,
         Found::At(j) => level_at(table, used, j),
     }
@@ -104,30 +147,34 @@ pub fn next_place(
     used: usize,
     parent: usize,
     end: usize,
+    plain: bool,
     from: usize,
 ) -> Next
-    requires { ⌜ Holds (now file) (now table) used × Run (entryIn (now table)) used parent end × (parent ≤ from) ⌝ }
+    requires { ⌜ Holds (now file) (now table) used × Run (entryIn (now table)) used parent end × (parent ≤ from)
+        × (plain ≡ true → AllLead (now file) (entryIn (now table)) parent end) ⌝ }
     ensures { λ r. ⌜ NextOf (now (file .entry)) (entryIn (now (table .entry))) used
         (placeLevels (now (file .entry)) (entryIn (now (table .entry))) used parent from) r ⌝ }
 {
     let mut i = from;
     while i < end {
-        if is_place(file, table, used, parent, i) {
-            match place_level(file, table, used, parent, end, i) {
+        let next = after(table, used, i);
+        if leads_at(file, table, used, parent, plain, i) {
+            match place_level(file, table, used, parent, end, plain, i) {
                 Found::At(k) => {
                     return Next::Child(
                         k,
                         Turn::Places {
                             parent,
                             end,
-                            at: i + 1,
+                            plain,
+                            at: next,
                         },
                     );
                 }
                 Found::Nothing => {}
             }
         }
-        i += 1;
+        i = next;
     }
     Next::End
 }

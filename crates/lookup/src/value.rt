@@ -15,6 +15,7 @@ ghost use Rattle.lookup.specs.Table.{entriesIn, Lies, Rows, Holds, found
 ghost use Rattle.lookup.specs.Values.{onlyUnnamed, meaning, Inside};
 use crate::ClxValue;
 use crate::Found;
+use crate::entry::after;
 use crate::entry::entry_at;
 use cursor::le4;
 use cursor::le8;
@@ -44,7 +45,7 @@ pub fn is_list(table: &[u8], used: usize, parent: usize) -> bool
             }
             seen = true;
         }
-        i += 1;
+        i = after(table, used, i);
     }
     seen
 }

@@ -8,7 +8,7 @@ end-of-requires : tie.Need-end-of-requires
 end-of-requires c κs = (c .before .before .before .pre .0 .rows, c .before .before .before .pre .1)
 
 last-named-requires : tie.Need-last-named-requires
-last-named-requires c κs = (c .before .before .before .before .pre .0, c .end-of .ensures .below)
+last-named-requires c κs = (c .before .before .before .before .pre .0, c .end-of .ensures .below .low, c .end-of .ensures .below .high)
 
 returns : tie.Need-returns
 returns c =

@@ -1,9 +1,11 @@
 -- What comes after entry i comes after k, an entry in whose front i stands.
 use Prim.Native.Nat.{ℕ, _<_}
+use mathlib.Core.Path.{sym, ap, _∙_}
 use native.Mathlib.Omega.{arith}
 use mathlib.Core.List.{List}
 use Rattle.lookup.specs.Table.{entryIn, found}
-use Rattle.lookup.proofs.Elements.{After, after-number, number-next, next-found, next-none, next-up, next-above, element-after}
+use Rattle.lookup.specs.Values.{headOf}
+use Rattle.lookup.proofs.Elements.{kids-hop, After, after-number, number-next, next-found, next-none, next-up, next-above, element-after}
 use Rattle.lookup.proofs.Search.{is-at, is-nothing, at-within}
 use Rattle.lookup.proofs.list.next_element.Statement.{statement}
 use Rattle.lookup.proofs.list.next_element.Tie as tie
@@ -21,14 +23,14 @@ loop-holds c = (c .before .pre .1, λ ys a. a)
 parent-at-requires : tie.Need-parent-at-requires Inv-loop μ-loop
 parent-at-requires c κs = let r = c .before .before .pre .0 .room in omega arith
 
-add-next-unnamed : tie.Need-add-next-unnamed Inv-loop μ-loop
-add-next-unnamed c = search needs
+after-requires : tie.Need-after-requires Inv-loop μ-loop
+after-requires c κs = (c .before .before .before .pre .0, c .before .loop .inv .0)
 
 next-unnamed-requires : tie.Need-next-unnamed-requires Inv-loop μ-loop
 next-unnamed-requires c κs =
-    let o = c .before .before .before .pre .0 .order .older _ (c .before .loop .inv .0) in
-    let e = c .parent-at .ensures in
-    (c .before .before .before .pre .0, omega arith)
+    let o = c .before .before .before .before .pre .0 .order .older _ (c .before .before .loop .inv .0) in
+    let e = c .before .parent-at .ensures in
+    (c .before .before .before .before .pre .0, omega (arith, c .after .ensures .below .low))
 
 enum-known-j : tie.Need-enum-known-j Inv-loop μ-loop
 enum-known-j c = search needs
@@ -36,8 +38,10 @@ enum-known-j c = search needs
 returns : tie.Need-returns Inv-loop μ-loop
 unfolding found
 returns c =
-    let h = is-at _ _ _ (c .before .j .given .1) (c .before .before .before .next-unnamed .ensures .0) in
-    (λ s m q. number-next s (entryIn _) _ _ m _ (next-found (entryIn _) _ _ _ _ (c .before .before .before .before .before .before .before .pre .0 .order) (c .before .before .before .before .before .loop .inv .1 _ (after-number s (entryIn _) _ _ m _ q)) _ (c .before .before .before .before .parent-at .ensures) _ h), at-within _ _ _ (c .before .j .given .1) (c .before .before .before .next-unnamed .ensures .1))
+    let q = c .before .before .before .before .before .parent-at .ensures in
+    let l = rw (← q) at (c .before .before .before .before .before .before .before .before .pre .0 .order .older _ (c .before .before .before .before .before .before .loop .inv .0)) in
+    let h = is-at _ _ _ (c .before .j .given .1) (c .before .before .before .next-unnamed .ensures .0) ∙ ap headOf (sym (kids-hop (entryIn _) _ _ _ _ l (c .before .before .before .before .after .ensures))) in
+    (λ s m q. number-next s (entryIn _) _ _ m _ (next-found (entryIn _) _ _ _ _ (c .before .before .before .before .before .before .before .before .pre .0 .order) (c .before .before .before .before .before .before .loop .inv .1 _ (after-number s (entryIn _) _ _ m _ q)) _ (c .before .before .before .before .before .parent-at .ensures) _ h), at-within _ _ _ (c .before .j .given .1) (c .before .before .before .next-unnamed .ensures .1))
 
 enum-told : tie.Need-enum-told Inv-loop μ-loop
 enum-told c = search needs
@@ -45,30 +49,34 @@ enum-told c = search needs
 returns-2 : tie.Need-returns-2 Inv-loop μ-loop
 unfolding found
 returns-2 c =
-    let h = is-nothing _ _ (c .before .enum-told .given .1) (c .before .before .before .next-unnamed .ensures .0) in
-    (λ s m q. number-next s (entryIn _) _ _ m _ (next-none (entryIn _) _ _ _ _ (c .before .before .before .before .before .before .before .pre .0 .order) (c .before .before .before .before .before .loop .inv .1 _ (after-number s (entryIn _) _ _ m _ q)) _ (c .before .before .before .before .parent-at .ensures) h (c .if1 .taken)), tt)
+    let q = c .before .before .before .before .before .parent-at .ensures in
+    let l = rw (← q) at (c .before .before .before .before .before .before .before .before .pre .0 .order .older _ (c .before .before .before .before .before .before .loop .inv .0)) in
+    let h = is-nothing _ _ (c .before .enum-told .given .1) (c .before .before .before .next-unnamed .ensures .0) ∙ ap headOf (sym (kids-hop (entryIn _) _ _ _ _ l (c .before .before .before .before .after .ensures))) in
+    (λ s m q. number-next s (entryIn _) _ _ m _ (next-none (entryIn _) _ _ _ _ (c .before .before .before .before .before .before .before .before .pre .0 .order) (c .before .before .before .before .before .before .loop .inv .1 _ (after-number s (entryIn _) _ _ m _ q)) _ (c .before .before .before .before .before .parent-at .ensures) h (c .if1 .taken)), tt)
 
 sub-k : tie.Need-sub-k Inv-loop μ-loop
 sub-k c =
-    let p = c .before .before .before .before .before .before .before .pre in
-    let v = c .before .before .before .before .before .loop .inv in
-    omega (arith, next-above (entryIn _) _ _ _ _ (p .0 .order) (v .1 _ (element-after (entryIn _) _ _ _ (p .2))) _ (c .before .before .before .before .parent-at .ensures) (c .if1 .left))
+    let p = c .before .before .before .before .before .before .before .before .pre in
+    let v = c .before .before .before .before .before .before .loop .inv in
+    omega (arith, next-above (entryIn _) _ _ _ _ (p .0 .order) (v .1 _ (element-after (entryIn _) _ _ _ (p .2))) _ (c .before .before .before .before .before .parent-at .ensures) (c .if1 .left))
 
 loop-less : tie.Need-loop-less Inv-loop μ-loop
 loop-less c =
-    let p = c .before .before .before .before .before .before .before .pre in
-    let v = c .before .before .before .before .before .loop .inv in
+    let p = c .before .before .before .before .before .before .before .before .pre in
+    let v = c .before .before .before .before .before .before .loop .inv in
     let o = p .0 .order .older _ (v .0) in
-    let e = c .before .before .before .before .parent-at .ensures in
+    let e = c .before .before .before .before .before .parent-at .ensures in
     omega (arith, next-above (entryIn _) _ _ _ _ (p .0 .order) (v .1 _ (element-after (entryIn _) _ _ _ (p .2))) _ e (c .if1 .left))
 
 loop-again : tie.Need-loop-again Inv-loop μ-loop
 loop-again c =
-    let p = c .before .before .before .before .before .before .before .pre in
-    let v = c .before .before .before .before .before .loop .inv in
+    let p = c .before .before .before .before .before .before .before .before .pre in
+    let v = c .before .before .before .before .before .before .loop .inv in
     let o = p .0 .order .older _ (v .0) in
-    let e = c .before .before .before .before .parent-at .ensures in
-    let h = is-nothing _ _ (c .before .enum-told .given .1) (c .before .before .before .next-unnamed .ensures .0) in
+    let e = c .before .before .before .before .before .parent-at .ensures in
+    let q = c .before .before .before .before .before .parent-at .ensures in
+    let l = rw (← q) at (c .before .before .before .before .before .before .before .before .pre .0 .order .older _ (c .before .before .before .before .before .before .loop .inv .0)) in
+    let h = is-nothing _ _ (c .before .enum-told .given .1) (c .before .before .before .next-unnamed .ensures .0) ∙ ap headOf (sym (kids-hop (entryIn _) _ _ _ _ l (c .before .before .before .before .after .ensures))) in
     let z = next-above (entryIn _) _ _ _ _ (p .0 .order) (v .1 _ (element-after (entryIn _) _ _ _ (p .2))) _ e (c .if1 .left) in
     (omega (arith, v .0), λ ys a. next-up (entryIn _) _ _ _ ys (p .0 .order) (v .1 ys a) _ e h (c .if1 .left))
 
@@ -80,7 +88,7 @@ next-element-spec =
     μ-loop
     loop-holds
     parent-at-requires
-    add-next-unnamed
+    after-requires
     next-unnamed-requires
     enum-known-j
     returns

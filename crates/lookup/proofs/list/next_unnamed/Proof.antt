@@ -5,7 +5,7 @@ use mathlib.Core.Path.{_≡_, refl, sym, ap, _∙_}
 use mathlib.Core.Logic.{⊎-elim}
 use Rattle.lookup.specs.Table.{entryIn, found}
 use Rattle.lookup.specs.Values.{kids, headOf}
-use Rattle.lookup.proofs.Elements.{kid-yes, kid-other, kid-named, kids-end, kids-none}
+use Rattle.lookup.proofs.Elements.{kid-yes, kid-other, kid-named, kids-end, kids-none, kids-hop}
 use Rattle.lookup.proofs.list.next_unnamed.Statement.{statement}
 use Rattle.lookup.proofs.list.next_unnamed.Tie as tie
 use borrow.Author.Needs.{needs}
@@ -36,22 +36,24 @@ returns-2 c =
     let l = c .before .before .before .before .before .loop-test .taken in
     (sym (ap headOf (c .before .before .before .before .before .before .loop .inv .1 ∙ kid-yes (entryIn _) _ _ _ (e .result) (e .ensures) l (c .before .before .if2 .taken) (c .if3 .taken))), l)
 
-add-i : tie.Need-add-i Inv-loop μ-loop
-add-i c = search needs
+after-requires : tie.Need-after-requires Inv-loop μ-loop
+after-requires c κs = (c .before .before .before .before .before .before .pre .0, c .before .before .before .loop-test .taken)
 
 loop-less : tie.Need-loop-less Inv-loop μ-loop
-loop-less c = search needs
+loop-less c = omega (arith, c .after .ensures .below .low, c .before .before .before .before .loop-test .taken)
 
 loop-again : tie.Need-loop-again Inv-loop μ-loop
 loop-again c =
-    let e = c .before .before .entry-at in
-    let l = c .before .before .before .loop-test .taken in
-    let v = c .before .before .before .before .loop .inv in (
-      omega arith,
+    let e = c .before .before .before .entry-at in
+    let l = c .before .before .before .before .loop-test .taken in
+    let v = c .before .before .before .before .before .loop .inv in
+    let r = c .after .ensures in (
+      omega (arith, r .below .low, v .0),
       v .1 ∙ ⊎-elim
           (λ w. kid-named (entryIn _) _ _ _ (e .result) (e .ensures) l (w .2 .left))
           (λ w. kid-other (entryIn _) _ _ _ (e .result) (e .ensures) l (w .left))
-          (c .if2 .came),
+          (c .before .if2 .came)
+          ∙ kids-hop (entryIn _) _ _ _ _ (v .0) r,
     )
 
 returns-3 : tie.Need-returns-3 Inv-loop μ-loop
@@ -68,7 +70,7 @@ next-unnamed-spec =
     entry-at-requires
     returns
     returns-2
-    add-i
+    after-requires
     loop-less
     loop-again
     returns-3)

@@ -1,55 +1,52 @@
--- The search goes from child to child, from the last one to the first.
-use native.Mathlib.Omega.{arith}
+-- The search has come to entry i, past whole children, and found the last of the name before it.
+use Prim.Native.Nat.{_-_, _≤_}
 use mathlib.Core.Path.{sym, _∙_}
-use Rattle.lookup.specs.Table.{entryIn, found}
-use Rattle.lookup.proofs.Search.{at-child, no-child, last-here, last-none, Searching, at-start, at-next}
+use mathlib.Core.Logic.{⊎-elim}
+use native.Mathlib.Omega.{arith}
+use Rattle.lookup.specs.Table.{entryIn, found, Within}
+use Rattle.lookup.proofs.Search.{Sought, sought-start, sought-on, last-yes, last-no, last-none}
+use borrow.Author.Needs.{needs}
 use Rattle.lookup.proofs.named.last_named.Statement.{statement}
 use Rattle.lookup.proofs.named.last_named.Tie as tie
-use borrow.Author.Needs.{needs}
 
 abbrev Inv-loop : tie.InvT-loop
-Inv-loop file table used parent to name i₀ i = Searching file (entryIn table) parent name used to i
+Inv-loop file table used parent to name last₀ i₀ last i = (parent ≤ i) × Sought file (entryIn table) parent name to i (found last) × Within to last
 
 abbrev μ-loop : tie.MeasureT-loop
-μ-loop file table used parent to name i₀ i = i
+μ-loop file table used parent to name last₀ i₀ last i = to - i
 
 loop-holds : tie.Need-loop-holds Inv-loop μ-loop
-loop-holds c = at-start _ _ _ _ _ _ (c .before .before .before .pre .1)
-
-child-before-requires : tie.Need-child-before-requires Inv-loop μ-loop
-child-before-requires c κs = (c .before .before .before .before .pre .0 .rows, c .loop .inv .below)
-
-enum-told : tie.Need-enum-told Inv-loop μ-loop
-enum-told c = search needs
-
-returns : tie.Need-returns Inv-loop μ-loop
 unfolding found
-returns c =
-    let a = c .before .before .before .loop .inv in
-    let l = no-child _ _ _ _ (c .enum-told .given .1) (c .before .before .child-before .ensures) in
-    (sym (a .same ∙ last-none _ _ _ _ _ _ (c .before .before .before .before .before .before .before .pre .0 .rows .order) l (a .below .high)), tt)
-
-enum-known-j : tie.Need-enum-known-j Inv-loop μ-loop
-enum-known-j c = search needs
+loop-holds c = let p = c .before .before .before .pre in (omega arith, sought-start _ _ _ _ _ _ _ (p .1) (sym (last-none _ _ _ _ _ _ (p .0 .rows .order) (omega arith) (omega (arith, p .1, p .2)))), tt)
 
 bears-requires : tie.Need-bears-requires Inv-loop μ-loop
-bears-requires c κs =
-    let a = c .before .before .before .before .loop .inv in
-    let d = at-child _ _ _ _ _ (c .before .j .given .1) (c .before .before .before .child-before .ensures) in
-    (omega (arith, c .before .before .before .before .before .before .before .before .pre .0 .rows .room, d .high, a .below .high), c .before .before .before .before .before .before .before .before .pre .0 .lie _ (omega (arith, d .high, a .below .high)))
+bears-requires c κs = let p = c .before .before .before .before .before .pre in
+    let l = c .loop-test .taken in
+    (omega (arith, p .0 .rows .room, p .2, l), p .0 .lie _ (omega (arith, p .2, l)))
 
-returns-2 : tie.Need-returns-2 Inv-loop μ-loop
-unfolding found
-returns-2 c =
-    let a = c .before .before .before .before .before .before .loop .inv in
-    let d = at-child _ _ _ _ _ (c .before .before .before .j .given .1) (c .before .before .before .before .before .child-before .ensures) in
-    (sym (a .same ∙ last-here _ _ _ _ _ _ d (sym (c .before .bears .ensures) ∙ c .if1 .taken)), omega (arith, d .high, a .high))
+after-requires : tie.Need-after-requires Inv-loop μ-loop
+after-requires c κs = let p = c .before .before .before .before .before .before .before .pre in (p .0 .rows, omega (arith, p .2, c .before .before .loop-test .taken))
 
 loop-less : tie.Need-loop-less Inv-loop μ-loop
-loop-less c = at-child _ _ _ _ _ (c .before .before .before .j .given .1) (c .before .before .before .before .before .child-before .ensures) .high
+loop-less c = let r = c .after .ensures in omega (arith, r .below .low, c .before .before .before .loop-test .taken)
 
 loop-again : tie.Need-loop-again Inv-loop μ-loop
-loop-again c = at-next _ _ _ _ _ _ _ _ (c .before .before .before .before .before .before .loop .inv) (at-child _ _ _ _ _ (c .before .before .before .j .given .1) (c .before .before .before .before .before .child-before .ensures)) (sym (c .before .bears .ensures) ∙ c .if1 .left)
+unfolding found
+loop-again c =
+    let v = c .before .before .before .before .loop .inv in
+    let l = c .before .before .before .loop-test .taken in
+    let r = c .after .ensures in
+    let b = c .before .before .bears .ensures in (
+      omega (arith, r .below .low, v .0),
+      sought-on _ _ _ _ _ _ _ _ _ l (v .0) r (⊎-elim
+          (λ w. rw (w .1) (sym (last-yes _ _ _ _ _ (sym b ∙ w .0 .taken))))
+          (λ w. rw (w .1) (v .1 .by (omega arith) ∙ sym (last-no _ _ _ _ _ (sym b ∙ w .0 .left))))
+          (c .before .if1 .came)),
+      ⊎-elim (λ w. rw (w .1) l) (λ w. rw (w .1) (v .2)) (c .before .if1 .came),
+    )
+
+returns : tie.Need-returns Inv-loop μ-loop
+returns c = let v = c .before .loop .inv in (v .1 .past (c .loop-test .left), v .2)
 
 pub last-named-spec : {M : Type 1} → statement M
 last-named-spec =
@@ -58,11 +55,8 @@ last-named-spec =
     Inv-loop
     μ-loop
     loop-holds
-    child-before-requires
-    enum-told
-    returns
-    enum-known-j
     bears-requires
-    returns-2
+    after-requires
     loop-less
-    loop-again)
+    loop-again
+    returns)

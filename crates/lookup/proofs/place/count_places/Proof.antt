@@ -1,56 +1,68 @@
 -- n places stand before entry i of the level's run.
 use Prim.Native.Nat.{_≤_, _<_, _-_}
-use native.Mathlib.Omega.{arith}
-use mathlib.Core.Path.{sym, _∙_}
+use mathlib.Core.Path.{_≡_, sym, _∙_}
+use mathlib.Core.Bool.{true}
 use mathlib.Core.Logic.{⊎-elim}
+use native.Mathlib.Omega.{arith}
 use Rattle.lookup.specs.Table.{entryIn, Run}
-use Rattle.lookup.proofs.Places.{Placed, placed-start, placed-here, placed-skip, placed-end}
-use Rattle.lookup.proofs.Rows.{below-less}
+use Rattle.lookup.specs.Walks.{AllLead}
+use Rattle.lookup.proofs.Places.{Placed, placed-start, placed-here, placed-skip, placed-hop, placed-end}
+use borrow.Author.Needs.{needs}
 use Rattle.lookup.proofs.place.count_places.Statement.{statement}
 use Rattle.lookup.proofs.place.count_places.Tie as tie
-use borrow.Author.Needs.{needs}
 
 abbrev Inv-loop : tie.InvT-loop
-Inv-loop file table used parent end n₀ i₀ n i = (parent ≤ i) × Run (entryIn table) used parent end × Placed file (entryIn table) used parent i n
+Inv-loop file table used parent end plain n₀ i₀ n i =
+    (parent ≤ i) × Run (entryIn table) used parent end × (plain ≡ true → AllLead file (entryIn table) parent end) × Placed file (entryIn table) used parent i n
 
 abbrev μ-loop : tie.MeasureT-loop
-μ-loop file table used parent end n₀ i₀ n i = end - i
+μ-loop file table used parent end plain n₀ i₀ n i = end - i
 
 end-of-requires : tie.Need-end-of-requires Inv-loop μ-loop
 end-of-requires c κs = (c .before .before .pre .0 .rows, c .before .before .pre .1)
 
-loop-holds : tie.Need-loop-holds Inv-loop μ-loop
-loop-holds c = (omega arith, c .end-of .ensures, placed-start _ _ _ _ (c .before .before .before .pre .0 .rows .order) (c .before .before .before .pre .1))
+all-lead-requires : tie.Need-all-lead-requires Inv-loop μ-loop
+all-lead-requires c κs = (c .before .before .before .pre .0, c .end-of .ensures)
 
-is-place-requires : tie.Need-is-place-requires Inv-loop μ-loop
-is-place-requires c κs =
+loop-holds : tie.Need-loop-holds Inv-loop μ-loop
+loop-holds c =
+    let p = c .before .before .before .before .pre in
+    (omega arith, c .before .end-of .ensures, c .all-lead .ensures, placed-start _ _ _ _ (p .0 .rows .order) (p .1))
+
+leads-at-requires : tie.Need-leads-at-requires Inv-loop μ-loop
+leads-at-requires c κs =
+    let p = c .before .before .before .before .before .before .pre in
     let v = c .before .loop .inv in
     let l = c .loop-test .taken in
-    (c .before .before .before .before .before .pre .0, below-less _ _ _ _ _ (v .1 .below) (v .0) (omega arith), omega (arith, v .1 .below .high))
+    (p .0, v .0, omega (arith, l, v .1 .below .high), λ z. v .2 z _ (v .0) l)
 
 add-n : tie.Need-add-n Inv-loop μ-loop
-add-n c = omega (arith, c .before .before .before .loop .inv .2 .few)
+add-n c = omega (arith, c .before .before .before .loop .inv .3 .few)
 
-add-i : tie.Need-add-i Inv-loop μ-loop
-add-i c = search needs
+after-requires : tie.Need-after-requires Inv-loop μ-loop
+after-requires c κs =
+    let v = c .before .before .before .loop .inv in
+    (c .before .before .before .before .before .before .before .before .pre .0 .rows, omega (arith, v .1 .below .high, c .before .before .loop-test .taken))
 
 loop-less : tie.Need-loop-less Inv-loop μ-loop
-loop-less c = search needs
+loop-less c = omega (arith, c .after .ensures .below .low, c .before .before .before .loop-test .taken)
 
 loop-again : tie.Need-loop-again Inv-loop μ-loop
 loop-again c =
-    let v = c .before .before .before .loop .inv in
-    let l : c .before .before .before .loop .i < c .before .before .before .before .before .before .before .args .used = omega (arith, c .before .before .loop-test .taken, v .1 .below .high) in (
-      omega arith,
+    let v = c .before .before .before .before .loop .inv in
+    let r = c .after .ensures in
+    let l : c .before .before .before .before .loop .i < c .before .before .before .before .before .before .before .before .before .args .used = omega (arith, c .before .before .before .loop-test .taken, v .1 .below .high) in (
+      omega (arith, v .0, r .below .low),
       v .1,
-      ⊎-elim
-          (λ w. rw (w .1) (placed-here _ (entryIn _) _ _ _ _ (v .2) l (sym (c .before .is-place .ensures) ∙ w .0 .taken)))
-          (λ w. rw (w .1) (placed-skip _ (entryIn _) _ _ _ _ (v .2) l (sym (c .before .is-place .ensures) ∙ w .0 .left)))
-          (c .if1 .came),
+      v .2,
+      placed-hop _ (entryIn _) _ _ _ _ _ (v .0) r (⊎-elim
+          (λ w. rw (w .1) (placed-here _ (entryIn _) _ _ _ _ (v .3) l (sym (c .before .before .leads-at .ensures) ∙ w .0 .taken)))
+          (λ w. rw (w .1) (placed-skip _ (entryIn _) _ _ _ _ (v .3) l (sym (c .before .before .leads-at .ensures) ∙ w .0 .left)))
+          (c .before .if1 .came)),
     )
 
 returns : tie.Need-returns Inv-loop μ-loop
-returns c = placed-end _ (entryIn _) _ _ _ _ _ (c .before .loop .inv .2) (c .before .loop .inv .1) (c .loop-test .left)
+returns c = placed-end _ (entryIn _) _ _ _ _ _ (c .before .loop .inv .3) (c .before .loop .inv .1) (c .loop-test .left)
 
 pub count-places-spec : {M : Type 1} → statement M
 count-places-spec =
@@ -59,10 +71,11 @@ count-places-spec =
     Inv-loop
     μ-loop
     end-of-requires
+    all-lead-requires
     loop-holds
-    is-place-requires
+    leads-at-requires
     add-n
-    add-i
+    after-requires
     loop-less
     loop-again
     returns)

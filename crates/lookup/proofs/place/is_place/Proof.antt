@@ -1,8 +1,10 @@
 -- A child is a place where no child before it has its name.
+use native.Mathlib.Omega.{arith}
+use mathlib.Core.Path.{sym}
 use Rattle.format.specs.Values.{nameOf}
-use Rattle.lookup.specs.Table.{entryIn}
+use Rattle.lookup.specs.Table.{entryIn, found}
 use Rattle.lookup.proofs.Places.{place-first, place-other}
-use Rattle.lookup.proofs.Search.{is-at, is-nothing}
+use Rattle.lookup.proofs.Search.{is-at, is-nothing, last-none}
 use borrow.Author.Needs.{needs}
 use Rattle.lookup.proofs.place.is_place.Statement.{statement}
 use Rattle.lookup.proofs.place.is_place.Tie as tie
@@ -11,7 +13,17 @@ entry-at-requires : tie.Need-entry-at-requires
 entry-at-requires c κs = search needs
 
 last-alike-requires : tie.Need-last-alike-requires
-last-alike-requires c κs = (c .before .before .before .before .pre .0, c .before .before .before .before .pre .1, rw (c .before .entry-at .ensures) (c .before .before .before .before .pre .0 .lie _ (c .before .before .before .before .pre .2) .name))
+unfolding found
+last-alike-requires c κs =
+    let p = c .before .before .before .before .pre in (
+      p .0,
+      omega arith,
+      p .1,
+      omega (arith, p .2),
+      rw (c .before .entry-at .ensures) (p .0 .lie _ (p .2) .name),
+      sym (last-none _ (entryIn _) _ _ _ _ (p .0 .rows .order) (omega arith) (omega (arith, p .1, p .2))),
+      tt,
+    )
 
 enum-told : tie.Need-enum-told
 enum-told c = search needs

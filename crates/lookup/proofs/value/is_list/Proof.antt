@@ -6,7 +6,7 @@ use mathlib.Core.List.{List}
 use mathlib.Core.Logic.{⊎-elim}
 use Rattle.format.specs.declared.Entry.{Entry}
 use Rattle.lookup.specs.Table.{entryIn}
-use Rattle.lookup.proofs.Lists.{Plain, plain-start, plain-stop, plain-other, plain-more, not-list}
+use Rattle.lookup.proofs.Lists.{Plain, plain-start, plain-stop, plain-other, plain-more, plain-hop, not-list}
 use Rattle.lookup.proofs.value.is_list.Statement.{statement}
 use Rattle.lookup.proofs.value.is_list.Tie as tie
 use borrow.Author.Needs.{needs}
@@ -34,22 +34,23 @@ returns-2 c =
     let e = c .before .before .before .before .entry-at .ensures in
     λ s. sym (not-list s _ _ _ _ (c .before .before .before .before .before .loop-test .taken) (ap (λ (x : Entry). x .parent) (sym e) ∙ c .before .before .if2 .taken) (λ z. c .if3 .taken (ap (λ (x : Entry). x .units) e ∙ z)))
 
-add-i : tie.Need-add-i Inv-loop μ-loop
-add-i c = search needs
+after-requires : tie.Need-after-requires Inv-loop μ-loop
+after-requires c κs = (c .before .before .before .before .before .before .pre .0, c .before .before .before .loop-test .taken)
 
 loop-less : tie.Need-loop-less Inv-loop μ-loop
-loop-less c = search needs
+loop-less c = omega (arith, c .after .ensures .below .low, c .before .before .before .before .loop-test .taken)
 
 loop-again : tie.Need-loop-again Inv-loop μ-loop
 loop-again c =
-    let e = c .before .before .entry-at .ensures in
-    let v = c .before .before .before .before .loop .inv in (
-      omega arith,
-      omega arith,
-      λ s. ⊎-elim
+    let e = c .before .before .before .entry-at .ensures in
+    let v = c .before .before .before .before .before .loop .inv in
+    let r = c .after .ensures in (
+      r .below .high,
+      omega (arith, r .below .low, v .1),
+      λ s. plain-hop s _ _ _ _ _ _ (v .1) r (⊎-elim
           (λ w. rw (w .3) (plain-more s _ _ _ _ (v .2 s) (ap (λ (x : Entry). x .parent) (sym e) ∙ w .0 .taken) (ap (λ (x : Entry). x .units) (sym e) ∙ w .2 .left)))
           (λ w. rw (w .1) (plain-other s _ _ _ _ (v .2 s) (λ z. w .0 .left (ap (λ (x : Entry). x .parent) e ∙ z))))
-          (c .if2 .came),
+          (c .before .if2 .came)),
     )
 
 returns-3 : tie.Need-returns-3 Inv-loop μ-loop
@@ -67,7 +68,7 @@ is-list-spec =
     entry-at-requires
     returns
     returns-2
-    add-i
+    after-requires
     loop-less
     loop-again
     returns-3)
