@@ -105,7 +105,7 @@ fn own_step(file: &[u8], table: &[u8], used: usize, i: usize) -> Real
 
 // The first step that the levels that a walk has still before it state, with `levels` depths left.
 fn first_step(file: &[u8], table: &[u8], used: usize, from: Turn, levels: u64) -> Real
-    requires { ⌜ Holds (now file) (now table) used × Standing (entryIn (now table)) used from ⌝ }
+    requires { ⌜ Holds (now file) (now table) used × Standing (now file) (entryIn (now table)) used from ⌝ }
     ensures { λ r. ⌜ real r ≡ firstOf (zStep levels (now (file .entry)) (entriesIn (now (table .entry)) used))
         (restOf (now (file .entry)) (entryIn (now (table .entry))) used from) ⌝ }
 {
@@ -142,6 +142,6 @@ pub fn step_from(file: &[u8], table: &[u8], used: usize, i: usize, levels: u64) 
         return own;
     };
     let next = get(file, table, used, i + 1, b"ppNextLevelEx");
-    let turn = children(table, used, next);
+    let turn = children(file, table, used, next);
     first_step(file, table, used, turn, levels - 1)
 }

@@ -10,6 +10,7 @@ use Rattle.format.specs.declared.Channel.{Channel}
 use Rattle.format.proofs.Covered.{plane-covers, covered-zero}
 use Rattle.format.proofs.ChannelRecords.{fitted-length}
 use Rattle.lookup.specs.Table.{entryIn, entriesIn, Holds}
+use Rattle.lookup.proofs.Reading.{holds-none}
 use Rattle.lookup.specs.Walks.{Standing, restOf}
 use Rattle.lookup.specs.declared.Turn.{Turn}
 use Rattle.channels.specs.Ahead.{planesFrom, ahead, recordOf, Stands, Follows, noPlanes}
@@ -60,14 +61,7 @@ module _ (s t : List ℕ) where
   none-at (suc k) = refl
 
   pub none-stands : Stands s t noPlanes
-  none-stands =
-      record {
-        holds = record {
-          rows = record { room = omega arith; order = record { older = λ i h. absurd (omega arith); nested = λ p i k a b h. absurd (omega arith) } };
-          lie = λ i h. absurd (omega arith);
-        };
-        standing = tt;
-      }
+  none-stands = record { holds = holds-none s t; standing = tt }
 
   -- a walk that has the records cs before it
   abbrev pub Before : Planes → List Channel → Type 0
@@ -84,7 +78,7 @@ module _ (s t : List ℕ) where
   none-left n {ps} e q = none-before {cs = covered n ps} e (rw q refl)
 
   -- the record of the next plane, to as many components as it covers, and then those of the rest
-  pub one-before : (used most n i : ℕ) (turn rest : Turn) (c : Channel) → Holds s t used → (most ≡ 0 → ⊥) → Standing (entryIn t) used rest
+  pub one-before : (used most n i : ℕ) (turn rest : Turn) (c : Channel) → Holds s t used → (most ≡ 0 → ⊥) → Standing s (entryIn t) used rest
       → restOf s (entryIn t) used turn ≡ i ∷ restOf s (entryIn t) used rest
       → n ≡ min (planeRecord s (entriesIn t used) i .covers) most → c ≡ channelOf s (entriesIn t used) i
       → Before (record { channel = c; again = n - 1; rest = rest; left = most - n; used = used }) (covered most (planesFrom s t used turn))

@@ -30,7 +30,7 @@ recordOf s t p k = getD (ahead s t p) k emptyChannel
 -- the walk may go on
 pub record Stands (s t : List ℕ) (p : Planes) : Type 0 where
   pub holds : Holds s t (p .used)
-  pub standing : Standing (entryIn t) (p .used) (p .rest)
+  pub standing : Standing s (entryIn t) (p .used) (p .rest)
 
 -- r has the records before it that p has behind its next one
 pub record Follows (s t : List ℕ) (p r : Planes) : Type 0 where

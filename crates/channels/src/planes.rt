@@ -71,7 +71,7 @@ fn at_most(n: u64, most: u64) -> u64
 
 // The records that the planes from `turn` on give to `most` components.
 fn planes_from(file: &[u8], table: &[u8], used: usize, turn: Turn, most: u64) -> Planes
-    requires { ⌜ Holds (now file) (now table) used × Standing (entryIn (now table)) used turn ⌝ }
+    requires { ⌜ Holds (now file) (now table) used × Standing (now file) (entryIn (now table)) used turn ⌝ }
     ensures { λ r. ⌜ Stands (now (file .entry)) (now (table .entry)) r
         × ((k : ℕ) → recordOf (now (file .entry)) (now (table .entry)) r k
         ≡ getD (covered most (planesFrom (now (file .entry)) (now (table .entry)) used turn)) k emptyChannel) ⌝ }
@@ -123,7 +123,7 @@ pub fn planes_in(file: &[u8], table: &[u8], used: usize, most: u64) -> Planes
     match planes_level(file, table, used) {
         Found::Nothing => no_planes(),
         Found::At(i) => {
-            let turn = children(table, used, Field::Is(ClxValue::Level(i)));
+            let turn = children(file, table, used, Field::Is(ClxValue::Level(i)));
             planes_from(file, table, used, turn, most)
         }
     }

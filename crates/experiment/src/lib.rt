@@ -77,7 +77,7 @@ fn load_children(
     levels: u64,
     before: Kept,
 ) -> Walked
-    requires { ⌜ Holds (now file) (now table) used × Standing (entryIn (now table)) used from × (nesting + levels ≤ 64) × Reached before ⌝ }
+    requires { ⌜ Holds (now file) (now table) used × Standing (now file) (entryIn (now table)) used from × (nesting + levels ≤ 64) × Reached before ⌝ }
     ensures { λ r. ⌜ ((bs : List Built) → Stands before bs → Gives r
         (walkAll (λ i. walk levels (now (file .entry)) (entriesIn (now (table .entry)) used) i nesting)
         (restOf (now (file .entry)) (entryIn (now (table .entry))) used from) bs)) ⌝ }
@@ -122,7 +122,7 @@ fn load_experiment_rec(
         Single::Wrong(n) => Walked { number: n, kept },
         Single::Loop(kind, count) => {
             let next = get(file, table, used, i + 1, b"ppNextLevelEx");
-            let turn = children(table, used, next);
+            let turn = children(file, table, used, next);
             let deeper = nesting_below(kind, nesting);
             let more = appended(kept, kind, count, nesting);
             load_children(file, table, used, turn, deeper, levels - 1, more)

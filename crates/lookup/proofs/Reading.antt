@@ -95,6 +95,26 @@ tree-ready s r es ys small within few t =
         let w : entryIn (tableBytes es ++ ys) j ≡ z = Option·some-injective _ z (sym (entry j (omega arith)) ∙ q) in
         rw (← w) (omega (arith, h j a b))
 
+-- a table of no entries has it too
+pub holds-none : (file table : List ℕ) → Holds file table 0
+holds-none file table =
+    record {
+      rows =
+          record {
+            room = omega arith;
+            order =
+                record {
+                  older = λ i l. absurd (omega arith);
+                  nested = λ p i k a b l. absurd (omega arith);
+                  rising = λ i k a l. absurd (omega arith);
+                  inside = λ i k a l. absurd (omega arith);
+                  outside = λ i k a l. absurd (omega arith);
+                };
+            short = λ i l. absurd (omega arith);
+          };
+      lie = λ i l. absurd (omega arith);
+    }
+
 -- a tree that was read whole in a part of a file, at the front of a table
 pub holds-read : (s : List ℕ) (r : Range) (es : List Entry) (p n : ℕ) (t : List ℕ) → length s < 2 ^ 64 → r .start + r .len ≤ length s
     → read (dataIn s r) (r .start) ≡ record { entries = es; stop = at p } → t ≡ over (tableBytes es) (zeros n) → Ready s t es

@@ -91,7 +91,7 @@ one t = (
 
 abbrev load-children-Inv-loop : load-children-lts.InvT-loop
 load-children-Inv-loop file table used nesting levels turn₀ kept₀ turn kept =
-    Standing (entryIn table) used turn
+    Standing file (entryIn table) used turn
     × On (λ i. walk levels file (entriesIn table used) i nesting) (restOf file (entryIn table) used turn₀) kept₀ (restOf file (entryIn table) used turn) kept
 
 abbrev load-children-μ-loop : load-children-lts.MeasureT-loop
@@ -161,7 +161,7 @@ load-experiment-rec-get-requires : (t : ℕ) → load-experiment-rec-lts.Need-ge
 load-experiment-rec-get-requires t c κs = search needs
 
 load-experiment-rec-children-requires : (t : ℕ) → load-experiment-rec-lts.Need-children-requires (one t) (load-experiment-rec-at t) load-experiment-rec.Post
-load-experiment-rec-children-requires t c κs = (c .before .before .before .before .before .before .before .before .before .pre .1 .0 .rows, c .get .ensures .1)
+load-experiment-rec-children-requires t c κs = (c .before .before .before .before .before .before .before .before .before .pre .1 .0, c .get .ensures .1)
 
 load-experiment-rec-nesting-below-requires : (t : ℕ) → load-experiment-rec-lts.Need-nesting-below-requires (one t) (load-experiment-rec-at t) load-experiment-rec.Post
 load-experiment-rec-nesting-below-requires t c κs = omega (arith, c .before .before .before .before .before .before .before .before .before .before .pre .1 .2)
@@ -176,7 +176,8 @@ load-experiment-rec-load-children-requires : (t : ℕ) → load-experiment-rec-l
 load-experiment-rec-load-children-requires t c κs =
     let a = c .before .before .before .before .before .before .before .before .before .before .before .before in
     let (bs, s) = a .pre .1 .3 in
-    (omega (arith, a .pre .0), (a .pre .1 .0, c .before .before .children .ensures (a .args .file .now) .good, omega (arith, a .pre .1 .2, c .before .nesting-below .ensures .1), (_, c .appended .ensures bs s)))
+    let l = c .before .before .before .before .before .before .before .before .before .if1 .left in
+    (omega (arith, a .pre .0, l), (a .pre .1 .0, c .before .before .children .ensures .good, omega (arith, a .pre .1 .2, l, c .before .nesting-below .ensures .1), (_, c .appended .ensures bs s)))
 
 load-experiment-rec-returns-2 : (t : ℕ) → load-experiment-rec-lts.Need-returns-2 (one t) (load-experiment-rec-at t) load-experiment-rec.Post
 load-experiment-rec-returns-2 t c bs s = gives-nothing _ _ _ _ _ _ (c .before .before .before .if1 .left) bs (sym (ap saidOf (c .enum-told .given .1)) ∙ c .before .before .single-experiment-loop .ensures) refl s
@@ -189,7 +190,7 @@ unfolding ascii
 load-experiment-rec-returns-4 t c bs s =
     let a = c .before .before .before .before .before .before .before .before .before .before .before .before .before .args in
     gives-loop _ _ _ _ _ _ (c .before .before .before .before .before .before .before .before .before .before .if1 .left) bs _ _ _ _ (sym (ap saidOf (c .before .before .before .before .before .before .before .kind .given .1)) ∙ c .before .before .before .before .before .before .before .before .before .single-experiment-loop .ensures) (c .before .before .nesting-below .ensures .0)
-    (ap (childLevels (a .file .now) (entriesIn (a .table .now) (a .used))) (sym (c .before .before .before .before .get .ensures .0)) ∙ c .before .before .before .children .ensures (a .file .now) .rest)
+    (ap (childLevels (a .file .now) (entriesIn (a .table .now) (a .used))) (sym (c .before .before .before .before .get .ensures .0)) ∙ c .before .before .before .children .ensures .rest)
     (c .load-children .ensures _ (c .before .appended .ensures bs s))
 
 pub +load-children+load-experiment-rec-spec : {M : Type 1} → statement M

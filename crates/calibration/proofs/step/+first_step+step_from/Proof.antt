@@ -71,7 +71,7 @@ one t = (
 abbrev first-step-Inv-loop : first-step-lts.InvT-loop
 first-step-Inv-loop file table used levels turn₀ turn =
     let f = zStep levels file (entriesIn table used) in
-    Standing (entryIn table) used turn × (firstOf f (restOf file (entryIn table) used turn₀) ≡ firstOf f (restOf file (entryIn table) used turn))
+    Standing file (entryIn table) used turn × (firstOf f (restOf file (entryIn table) used turn₀) ≡ firstOf f (restOf file (entryIn table) used turn))
 
 abbrev first-step-μ-loop : first-step-lts.MeasureT-loop
 first-step-μ-loop file table used levels turn₀ turn = length (restOf file (entryIn table) used turn)
@@ -140,18 +140,18 @@ step-from-get-requires : (t : ℕ) → step-from-lts.Need-get-requires (one t) (
 step-from-get-requires t c κs = search needs
 
 step-from-children-requires : (t : ℕ) → step-from-lts.Need-children-requires (one t) (step-from-at t) step-from.Post
-step-from-children-requires t c κs = (c .before .before .before .before .before .before .before .before .pre .1 .0 .rows, c .get .ensures .1)
+step-from-children-requires t c κs = (c .before .before .before .before .before .before .before .before .pre .1 .0, c .get .ensures .1)
 
 step-from-sub-first-step : (t : ℕ) → step-from-lts.Need-sub-first-step (one t) (step-from-at t) step-from.Post
 step-from-sub-first-step t c = search needs
 
 step-from-first-step-requires : (t : ℕ) → step-from-lts.Need-first-step-requires (one t) (step-from-at t) step-from.Post
-step-from-first-step-requires t c κs = let a = c .before .before .before .before .before .before .before .before .before in (omega (arith, a .pre .0), (a .pre .1 .0, c .children .ensures (a .args .file .now) .good))
+step-from-first-step-requires t c κs = let a = c .before .before .before .before .before .before .before .before .before in (omega (arith, a .pre .0), (a .pre .1 .0, c .children .ensures .good))
 
 step-from-returns-3 : (t : ℕ) → step-from-lts.Need-returns-3 (one t) (step-from-at t) step-from.Post
 unfolding ascii
 step-from-returns-3 t c =
-    step-below _ _ _ _ (c .before .before .before .before .before .before .before .if1 .left) _ _ _ (sym (ap real (c .before .before .before .before .enum-told .given .1)) ∙ c .before .before .before .before .before .before .own-step .ensures) (c .before .before .get .ensures .0) (c .before .children .ensures _ .rest) (c .first-step .ensures)
+    step-below _ _ _ _ (c .before .before .before .before .before .before .before .if1 .left) _ _ _ (sym (ap real (c .before .before .before .before .enum-told .given .1)) ∙ c .before .before .before .before .before .before .own-step .ensures) (c .before .before .get .ensures .0) (c .before .children .ensures .rest) (c .first-step .ensures)
 
 pub +first-step+step-from-spec : {M : Type 1} → statement M
 +first-step+step-from-spec = close μ-first-step μ-step-from (λ t. first-step-lts.spec (kids t)

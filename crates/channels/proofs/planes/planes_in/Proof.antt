@@ -28,12 +28,12 @@ enum-known-i c = search needs
 children-requires : tie.Need-children-requires
 children-requires c κs =
     let d = c .before .before .before in
-    (d .before .before .before .pre .rows, at-within _ _ _ (c .before .i .given .1) (d .planes-level .ensures .1))
+    (d .before .before .before .pre, at-within _ _ _ (c .before .i .given .1) (d .planes-level .ensures .1))
 
 planes-from-requires : tie.Need-planes-from-requires
 planes-from-requires c κs =
     let s = c .before .before .before .before .before .before .before in
-    (s .pre, c .children .ensures (now (s .args .file)) .good)
+    (s .pre, c .children .ensures .good)
 
 returns : tie.Need-returns
 unfolding found
@@ -49,7 +49,7 @@ returns-2 c =
     let a = d .before .before .before .before .before .before .args in
     let es = entriesIn (now (a .table)) (a .used) in
     let q = planes-at (now (a .file)) es _ (sym (ap found (d .before .i .given .1)) ∙ d .before .before .before .planes-level .ensures .0) in
-    let l = q ∙ ap (map (planeRecord (now (a .file)) es)) (c .before .children .ensures (now (a .file)) .rest) in
+    let l = q ∙ ap (map (planeRecord (now (a .file)) es)) (c .before .children .ensures .rest) in
     let p = c .planes-from .ensures in
     (p .0, λ k. p .1 k ∙ ap (λ (ps : List PlaneRecord). getD (covered (a .most) ps) k emptyChannel) (sym l))
 
