@@ -1,17 +1,17 @@
 -- The table that a tree was read into has what the lookups ask of it. Assumes nothing.
-use Prim.Native.Nat.{ℕ, zero, suc, _+_, _/_, _^_, _≤_, _<_}
+use Prim.Native.Nat.{ℕ, zero, suc, _+_, _*_, _/_, _^_, _≤_, _<_}
 use mathlib.Core.Path.{_≡_, sym, ap, _∙_, subst}
 use mathlib.Core.Option.{some, Option·some-injective}
 use mathlib.Core.List.{List, [], _∷_, _++_}
 use native.Mathlib.Omega.{arith}
-use lib.ListN.{length, getElem?, length-append, length-take, length-drop}
+use lib.ListN.{length, getElem?, take, drop, length-append, length-take, length-drop, take-append-drop}
 use Rattle.format.proofs.Answers.{none≢some}
 use Rattle.format.proofs.Forest.{Forest, forest-placed, forest-nested, forest-rising, forest-inside, forest-outside, tree-forest}
 use Rattle.format.proofs.Suffices.{suffices}
 use Rattle.format.proofs.Tables.{length-table, entries-back}
 use Rattle.format.specs.Table.{AllFit}
 use Rattle.format.proofs.Trees.{tree-read}
-use Rattle.format.specs.Bytes.{part, over, zeros}
+use Rattle.format.specs.Bytes.{part}
 use Rattle.format.specs.Chunks.{dataIn}
 use Rattle.format.specs.Grammar.Trees.{Tree}
 use Rattle.format.specs.Trees.{Read, at, read, treeIn, tableBytes}
@@ -116,12 +116,13 @@ holds-none file table =
     }
 
 -- a tree that was read whole in a part of a file, at the front of a table
-pub holds-read : (s : List ℕ) (r : Range) (es : List Entry) (p n : ℕ) (t : List ℕ) → length s < 2 ^ 64 → r .start + r .len ≤ length s
-    → read (dataIn s r) (r .start) ≡ record { entries = es; stop = at p } → t ≡ over (tableBytes es) (zeros n) → Ready s t es
-unfolding treeIn over
-holds-read s r es p n t small within e q =
+pub holds-read : (s : List ℕ) (r : Range) (es : List Entry) (p : ℕ) (t : List ℕ) → length s < 2 ^ 64 → r .start + r .len ≤ length s
+    → read (dataIn s r) (r .start) ≡ record { entries = es; stop = at p } → take (48 * length es) t ≡ tableBytes es → Ready s t es
+unfolding treeIn
+holds-read s r es p t small within e q =
     let a : treeIn s r .entries ≡ es = ap (λ (x : Read). x .entries) e in
     let b : treeIn s r .stop ≡ at p = ap (λ (x : Read). x .stop) e in
     let few : length es ≤ r .len / 2 = rw a at (suffices s r) in
     let tree : Tree s r es = rw a at (tree-read s r p b) in
-    rw q (tree-ready s r es _ small within few tree)
+    let z : tableBytes es ++ drop (48 * length es) t ≡ t = rw (← q) (take-append-drop (48 * length es) t) in
+    rw z at (tree-ready s r es (drop (48 * length es) t) small within few tree)

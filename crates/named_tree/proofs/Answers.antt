@@ -1,32 +1,30 @@
 -- What the answers of a lookup, a chunk and a tree make of the tree under a name. Assumes nothing.
 use Prim.Native.Nat.{ℕ, _+_, _^_, _≤_, _<_}
-use mathlib.Core.Path.{_≡_, refl, sym, ap, _∙_}
+use mathlib.Core.Path.{_≡_, refl, sym, ap, _∙_, subst}
 use mathlib.Core.Option.{Option, none, some}
 use mathlib.Core.List.{List}
 use lib.ListN.{length}
 use Rattle.format.proofs.Reading.{whole-read}
 use Rattle.format.specs.Answer.{Answer, given, refused, andThen, orRefuse}
-use Rattle.format.specs.Bytes.{part, zeros}
+use Rattle.format.specs.Bytes.{part}
 use Rattle.format.specs.Refusals as why
 use Rattle.format.specs.Chunks.{chunkData, dataIn}
 use Rattle.format.specs.Map.{MapEntry, mapEntries, offsetOf, namedChunk}
 use Rattle.format.specs.Trees.{read, treeIn, within, treeEntries, roomIn, namedTree}
-use Rattle.format.specs.Calls.Tree.{treeBy}
 use Rattle.format.specs.declared.Range.{Range}
 use Rattle.format.specs.declared.Entry.{Entry}
 use Rattle.chunk.specs.Answers.{findIn}
 use Rattle.lookup.proofs.Reading.{holds-read}
 use Rattle.lookup.proofs.Rows.{length-firsts}
 use Rattle.tree.specs.Table.{entryIn, entriesIn}
-use Rattle.tree.specs.Steps.{treeInto, parsedIn}
+use Rattle.tree.specs.Steps.{treeInto, parsedIn, Front}
 use Rattle.tree.specs.declared.Parsed.{Parsed}
 use Rattle.tree.specs.declared.Parsed.the-variants.{Entries, Refused}
 use Rattle.named_tree.specs.Named.{treeAt, treeUnder, Readable, Reads}
 
--- a refusal leaves a table of zeros
-pub refused-reads : {s t : List ℕ} {n x : ℕ} {a : Answer (List Entry)} {r : Parsed} → a ≡ refused x → r ≡ Refused x → t ≡ zeros n → Reads s t n a r
-unfolding treeBy
-refused-reads e f g = rw f (record { answer = e; table = rw e g; holds = tt })
+-- a refusal leaves the table to the caller
+pub refused-reads : {s t : List ℕ} {x : ℕ} {a : Answer (List Entry)} → a ≡ refused x → Reads s t a (Refused x)
+refused-reads e = record { answer = e; front = rw e tt; holds = tt }
 
 -- ---- the chunk at an offset
 
@@ -42,20 +40,19 @@ module _ (s name : List ℕ) (o n : ℕ) where
   -- what the tree's answer says, and what its table has
   pub chunk-reads : {r : Range} {d t : List ℕ} {p : Parsed} → length s < 2 ^ 64 → r .start + r .len ≤ length s → given r ≡ chunkData why.chunkName name s o
       → d ≡ part s (r .start) (r .len)
-      → parsedIn t p ≡ treeInto d (r .start) n → t ≡ treeBy n (treeInto d (r .start) n) .buffer → Reads s t n (treeAt s (roomIn n) name o) p
-  unfolding treeBy
+      → parsedIn t p ≡ treeInto d (r .start) n → Front t (treeInto d (r .start) n) → Reads s t (treeAt s (roomIn n) name o) p
   chunk-reads {r} {d} {t} {p} small within e q a b =
       let z : treeInto d (r .start) n ≡ treeAt s (roomIn n) name o = ap (λ (x : List ℕ). treeInto x (r .start) n) q ∙ sym (chunk-tree r e) in
-      let b′ : t ≡ treeBy n (treeAt s (roomIn n) name o) .buffer = b ∙ ap (λ (x : Answer (List Entry)). treeBy n x .buffer) z in
-      record { answer = sym z ∙ sym a; table = b′; holds = go p (a ∙ z) b′ }
+      let b′ : Front t (treeAt s (roomIn n) name o) = subst (Front t) z b in
+      record { answer = sym z ∙ sym a; front = b′; holds = go p (a ∙ z) b′ }
     where
-      go : (p : Parsed) → parsedIn t p ≡ treeAt s (roomIn n) name o → t ≡ treeBy n (treeAt s (roomIn n) name o) .buffer → Readable s t p
+      go : (p : Parsed) → parsedIn t p ≡ treeAt s (roomIn n) name o → Front t (treeAt s (roomIn n) name o) → Readable s t p
       go (Refused x) f g = tt
       go (Entries w) f g =
           let es = entriesIn t w in
           let (l, at, y) = whole-read (roomIn n) (read (dataIn s r) (r .start)) es (sym (chunk-tree r e) ∙ sym f) in
           let k : length es ≡ w = length-firsts w (entryIn t) in
-          rw (← k) (holds-read s r es at n t small within y (rw (← f) at g) .holds)
+          rw (← k) (holds-read s r es at t small within y (subst (Front t) (sym f) g) .holds)
 
 -- ---- what a lookup found
 

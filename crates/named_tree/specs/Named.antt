@@ -7,10 +7,9 @@ use Rattle.format.specs.Answer.{Answer, andThen, orRefuse}
 use Rattle.format.specs.Refusals as why
 use Rattle.format.specs.Chunks.{chunkData}
 use Rattle.format.specs.Trees.{treeIn, within, wholeTree, treeEntries}
-use Rattle.format.specs.Calls.Tree.{treeBy}
 use Rattle.format.specs.declared.Entry.{Entry}
 use Rattle.lookup.specs.Table.{Holds}
-use Rattle.tree.specs.Steps.{parsedIn}
+use Rattle.tree.specs.Steps.{parsedIn, Front}
 use Rattle.tree.specs.declared.Parsed.{Parsed}
 use Rattle.tree.specs.declared.Parsed.the-variants.{Entries, Refused}
 
@@ -29,9 +28,8 @@ abbrev pub Readable : List ℕ → List ℕ → Parsed → Type 0
 Readable file t (Entries used) = Holds file t used
 Readable file t (Refused x) = Unit
 
--- Of the tree a of a file, read into a table of n bytes: what the answer r is, by the table t that it leaves; and that table: the entries with
--- zeros behind them, or zeros alone.
-pub record Reads (file t : List ℕ) (n : ℕ) (a : Answer (List Entry)) (r : Parsed) : Type 0 where
+-- Of the tree a of a file: what the answer r is, by the table t that it leaves; and that the table begins with the entries.
+pub record Reads (file t : List ℕ) (a : Answer (List Entry)) (r : Parsed) : Type 0 where
   pub answer : a ≡ parsedIn t r
-  pub table : t ≡ treeBy n a .buffer
+  pub front : Front t a
   pub holds : Readable file t r

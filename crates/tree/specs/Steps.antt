@@ -2,9 +2,9 @@
 use Prim.Native.Nat.{ℕ, _+_, _-_, _*_, _≤_}
 use mathlib.Core.Path.{_≡_}
 use mathlib.Core.List.{List}
-use lib.ListN.{length}
+use lib.ListN.{length, take}
 use Rattle.format.specs.Answer.{Answer, given, refused}
-use Rattle.format.specs.Trees.{Stop, at, fault, Read, levelEnd, records, childrenAt, read, roomIn, within, treeEntries}
+use Rattle.format.specs.Trees.{Stop, at, fault, Read, levelEnd, records, childrenAt, read, roomIn, within, treeEntries, tableBytes}
 use Rattle.format.specs.declared.Entry.{Entry}
 use Rattle.cursor.specs.Steps.{valueOf}
 use Rattle.cursor.specs.declared.Cursor.{Cursor}
@@ -72,6 +72,11 @@ treeInto d base n = treeEntries (within (roomIn n) (read d base))
 abbrev pub parsedIn : List ℕ → Parsed → Answer (List Entry)
 parsedIn t (Entries n) = given (entriesIn t n)
 parsedIn t (Refused x) = refused x
+
+-- the table t begins with a tree's entries
+abbrev pub Front : List ℕ → Answer (List Entry) → Type 0
+Front t (given es) = take (48 * length es) t ≡ tableBytes es
+Front t (refused x) = Unit
 
 -- the entries that are counted stand in a table of n bytes
 abbrev pub Fits : ℕ → Parsed → Type 0

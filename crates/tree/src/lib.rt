@@ -3,18 +3,14 @@ ghost use mathlib.Core.Path.{_≡_};
 ghost use Prim.Native.Nat.{_+_, _*_, _^_, _≤_, _<_};
 ghost use lib.ListN.{length};
 ghost use lib.Seq.{sets};
-ghost use Rattle.format.specs.Bytes.{zeros};
 ghost use Rattle.format.specs.Trees.{entryBytes, roomIn};
-ghost use Rattle.format.specs.Calls.Tree.{treeBy};
 ghost use Rattle.cursor.specs.Words.{Within};
 ghost use Rattle.cursor.specs.Steps.{HeadRead, Headed};
 ghost use Rattle.tree.specs.Table.{Fit};
-ghost use Rattle.tree.specs.declared.Parsed.the-variants.{Refused};
-ghost use Rattle.tree.specs.Steps.{LevelEnded, entryFor, recordsAt, valueAt, Ran, treeInto, parsedIn, Fits};
+ghost use Rattle.tree.specs.Steps.{LevelEnded, entryFor, recordsAt, valueAt, Ran, treeInto, parsedIn, Front, Fits};
 use chunk_cursor::Start;
 use chunk_cursor::record_start;
 use cursor::Cursor;
-use cursor::clear;
 use cursor::put8;
 use cursor::record::Head;
 use cursor::record::Leaf;
@@ -187,23 +183,14 @@ fn parse_clx_value(d: &[u8], base: u64, table: &mut [u8], n: Name, c: Cursor, p:
     }
 }
 
-// A refusal, and a table of zeros.
-pub fn refuse(lent: &mut [u8], n: u32) -> Parsed
-    ensures { λ r. ⌜ (r ≡ Refused n) × (now (lent .exit) ≡ zeros (length (now (lent .entry)))) ⌝ }
-{
-    clear(lent);
-    Parsed::Refused(n)
-}
-
-// The tree in `data`, a part of a file that begins at `base`. Its entries go into the table, with zeros behind them; a refused tree leaves zeros alone.
+// The tree in `data`, a part of a file that begins at `base`. Its entries go to the front of the table; what is behind them, and where the tree is
+// refused all of it, is for the caller to clear.
 pub fn parse_clx_variant(data: &[u8], base: u64, table: &mut [u8]) -> Parsed
     requires { ⌜ base + length (now «data») < 2 ^ 64 ⌝ }
     ensures answer { λ r. ⌜ parsedIn (now (table .exit)) r ≡ treeInto (now («data» .entry)) base (length (now (table .entry))) ⌝ }
-    ensures table { λ _. ⌜ now (table .exit)
-        ≡ treeBy (length (now (table .entry))) (treeInto (now («data» .entry)) base (length (now (table .entry)))) .buffer ⌝ }
+    ensures front { λ _. ⌜ Front (now (table .exit)) (treeInto (now («data» .entry)) base (length (now (table .entry)))) ⌝ }
     ensures fits { λ r. ⌜ Fits (length (now (table .entry))) r ⌝ }
 {
-    clear(table);
     let end = data.len();
     let spot = Spot {
         parent: 0,
@@ -212,6 +199,6 @@ pub fn parse_clx_variant(data: &[u8], base: u64, table: &mut [u8]) -> Parsed
     };
     match parse_clx_records(data, base, table, Cursor { at: 0, end }, 1, spot) {
         Step::Next(_, used) => Parsed::Entries(used),
-        Step::Fault(f) => refuse(table, f),
+        Step::Fault(f) => Parsed::Refused(f),
     }
 }

@@ -1,11 +1,11 @@
 -- What a tree call's number and table promise, and what they are where the tree is refused or read. Assumes nothing.
-use Prim.Native.Nat.{ℕ}
-use mathlib.Core.Path.{_≡_, refl, sym, _∙_}
+use Prim.Native.Nat.{ℕ, _-_, _*_}
+use mathlib.Core.Path.{_≡_, refl, sym, _∙_, subst}
 use mathlib.Core.Bool.{true, false}
-use mathlib.Core.List.{List}
-use lib.ListN.{length}
-use Rattle.format.specs.Answer.{given, refused, refuseIf}
-use Rattle.format.specs.Bytes.{over, zeros}
+use mathlib.Core.List.{List, _++_}
+use lib.ListN.{length, take}
+use Rattle.format.specs.Answer.{Answer, given, refused, refuseIf}
+use Rattle.format.specs.Bytes.{zeros}
 use Rattle.format.specs.Refusals as why
 use Rattle.format.specs.Trees.{roomIn, tableBytes}
 use Rattle.format.specs.Summary.{mapOf, badSummary}
@@ -18,8 +18,12 @@ use Rattle.format.specs.declared.Summary.{Summary}
 use Rattle.format.proofs.TreeCalls.{tree-number, tree-accepted, tree-table, tree-refused}
 use Rattle.format.proofs.ChunkNames.{tree-named}
 use Rattle.chunk.specs.Answers.{findIn}
+use Rattle.lookup.proofs.Rows.{length-firsts}
 use Rattle.named_tree.specs.Named.{treeUnder}
 use Rattle.named_tree.proofs.Answers.{under-named}
+use Rattle.tree.specs.Steps.{Front}
+use Rattle.tree.specs.Table.{entryIn, entriesIn}
+use Rattle.tree_call.proofs.Cleared.{front-zeros}
 
 -- ---- the refusals in order
 
@@ -63,14 +67,19 @@ module _ (s : List ℕ) (u : Summary) (name bytes : List ℕ) where
     ),
   )
 
-  -- the table as the call leaves it
-  abbrev Left : List ℕ → Type 0
-  Left out = out ≡ treeBy (length bytes) (treeNamed s u name (roomIn (length bytes))) .buffer
+  abbrev tree : Answer (List Entry)
+  tree = treeNamed s u name (roomIn (length bytes))
 
-  pub refused-tree : {n : ℕ} {out : List ℕ} → treeNamed s u name (roomIn (length bytes)) ≡ refused n → Left out → Promised n out
+  -- a refusal's number, and the table cleared
+  pub refused-tree : {n : ℕ} {out : List ℕ} → tree ≡ refused n → out ≡ zeros (length bytes) → Promised n out
   unfolding treeCall treeBy
-  refused-tree q e = promised (rw q refl) e
+  refused-tree q e = promised (rw q refl) (rw q e)
 
-  pub read-tree : {es : List Entry} {out : List ℕ} → treeNamed s u name (roomIn (length bytes)) ≡ given es → Left out → Promised 0 out
+  -- the entries in front of the table t, and what is behind them cleared
+  pub read-tree : (t : List ℕ) (w : ℕ) {out : List ℕ} → tree ≡ given (entriesIn t w) → Front t tree → length t ≡ length bytes
+      → out ≡ take (48 * w) t ++ zeros (length t - 48 * w) → Promised 0 out
   unfolding treeCall treeBy
-  read-tree q e = promised (rw q refl) e
+  read-tree t w q f l e =
+      let k : length (entriesIn t w) ≡ w = length-firsts w (entryIn t) in
+      let g : take (48 * length (entriesIn t w)) t ≡ tableBytes (entriesIn t w) = subst (Front t) q f in
+      promised (rw q refl) (rw q (rw l at e ∙ front-zeros t (entriesIn t w) w (length bytes) k g))

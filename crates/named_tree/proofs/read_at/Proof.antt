@@ -15,14 +15,8 @@ chunk-data-requires c κs = search needs
 enum-told : tie.Need-enum-told
 enum-told c = search needs
 
-refuse-requires : tie.Need-refuse-requires
-refuse-requires c κs = search needs
-
 enum-told-2 : tie.Need-enum-told-2
 enum-told-2 c = search needs
-
-refuse-requires-2 : tie.Need-refuse-requires-2
-refuse-requires-2 c κs = search needs
 
 enum-known-r : tie.Need-enum-known-r
 enum-known-r c = search needs
@@ -31,34 +25,22 @@ data-of-requires : tie.Need-data-of-requires
 data-of-requires c κs = rw (c .before .r .given .1) at (c .before .before .before .chunk-data .ensures .1)
 
 parse-clx-variant-requires : tie.Need-parse-clx-variant-requires
-parse-clx-variant-requires c κs =
+parse-clx-variant-requires c κs = 
     let r = c .before .before .before in
     let h = rw (r .r .given .1) at (r .before .before .chunk-data .ensures .1) in
     omega (arith, h, ap length (c .before .data-of .ensures) ∙ part-length _ _ _ h)
 
+returns : tie.Need-returns
+returns c = refused-reads (no-chunk _ _ _ _ (rw (c .enum-told .given .1) at (c .before .before .chunk-data .ensures .0 why.chunkName)))
+
+returns-2 : tie.Need-returns-2
+returns-2 c = refused-reads (no-chunk _ _ _ _ (rw (c .enum-told2 .given .1) at (c .before .before .chunk-data .ensures .0 why.chunkName)))
+
 same-length : tie.Need-same-length
 same-length c = search needs
 
-returns : tie.Need-returns
-returns c =
-    let z = c .before .before .refuse .ensures in
-    let e = c .before .before .before .before in
-    refused-reads (no-chunk _ _ _ _ (rw (e .enum-told .given .1) at (e .before .before .chunk-data .ensures .0 why.chunkName))) (z .0) (z .1)
-
-same-length-2 : tie.Need-same-length-2
-same-length-2 c = search needs
-
-returns-2 : tie.Need-returns-2
-returns-2 c =
-    let z = c .before .before .refuse2 .ensures in
-    let e = c .before .before .before .before in
-    refused-reads (no-chunk _ _ _ _ (rw (e .enum-told2 .given .1) at (e .before .before .chunk-data .ensures .0 why.chunkName))) (z .0) (z .1)
-
-same-length-3 : tie.Need-same-length-3
-same-length-3 c = search needs
-
 returns-3 : tie.Need-returns-3
-returns-3 c =
+returns-3 c = 
     let p = c .before .before .parse-clx-variant in
     let d = c .before .before .before .before in
     let r = d .before .before .r .given .1 in
@@ -71,15 +53,11 @@ read-at-spec =
     (tie.spec
     chunk-data-requires
     enum-told
-    refuse-requires
     enum-told-2
-    refuse-requires-2
     enum-known-r
     data-of-requires
     parse-clx-variant-requires
-    same-length
     returns
-    same-length-2
     returns-2
-    same-length-3
+    same-length
     returns-3)

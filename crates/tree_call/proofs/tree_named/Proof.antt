@@ -18,17 +18,8 @@ use Rattle.tree_call.proofs.tree_named.Tie as tie
 bad-summary-requires : tie.Need-bad-summary-requires
 bad-summary-requires c κs = search needs
 
-refuse-requires : tie.Need-refuse-requires
-refuse-requires c κs = search needs
-
-same-length : tie.Need-same-length
-same-length c = search needs
-
 returns : tie.Need-returns
-returns c =
-    let z = c .before .before .refuse .ensures in
-    let i = c .before .before .before .before in
-    refused-reads (bad-summary _ _ _ _ (sym (i .before .bad-summary .ensures) ∙ i .if1 .taken)) (z .0) (z .1)
+returns c = refused-reads (bad-summary _ _ _ _ (sym (c .before .bad-summary .ensures) ∙ c .if1 .taken))
 
 -- the summary passed
 module _ (c : tie.Else1) where
@@ -44,8 +35,8 @@ look-up-requires c κs = search needs
 read-named-requires : tie.Need-read-named-requires
 read-named-requires c κs = search needs
 
-same-length-2 : tie.Need-same-length-2
-same-length-2 c = search needs
+same-length : tie.Need-same-length
+same-length c = search needs
 
 returns-2 : tie.Need-returns-2
 returns-2 c =
@@ -60,11 +51,9 @@ tree-named-spec =
     tie.close
     (tie.spec
     bad-summary-requires
-    refuse-requires
-    same-length
     returns
     data-of-requires
     look-up-requires
     read-named-requires
-    same-length-2
+    same-length
     returns-2)
