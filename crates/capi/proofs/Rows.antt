@@ -34,12 +34,12 @@ channel-length c = simp (length-append, leBytes-length)
 -- ---- the call
 
 -- The row that was cleared has the records of the prepared call.
-pub row-call : (file table t : List ℕ) (u : Summary) (n count : ℕ) {m : ℕ} {tree : Answer (List Entry)} (p : Prepared) (row b : List ℕ) → count ≡ n / 56
-    → Ready file t count (u .components) (recordsOf file u (roomIn (length table)) count) m tree p → b ≡ zeros n
+pub row-call : (file table t : List ℕ) (u : Summary) (n count : ℕ) (p : Prepared) (row b : List ℕ) → count ≡ n / 56
+    → Ready file t count (u .components) (recordsOf file u (roomIn (length table)) count) p → b ≡ zeros n
     → row ≡ over (channelRowBytes (fitted count (ahead file t (p .planes)))) b
     → (p .number ≡ channelRow file u table n .number) × (row ≡ channelRow file u table n .buffer)
 unfolding channelRow channelsCall
-row-call file table t u n count {m} {tree} p row b q r z e =
+row-call file table t u n count p row b q r z e =
     let l = length-replicate (n / 56) emptyChannel in
     (rw (l, ← q) (r .number), rw (l, ← q, r .row) (e ∙ ap (over (channelRowBytes (fitted count (ahead file t (p .planes))))) z))
 

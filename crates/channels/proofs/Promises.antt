@@ -78,9 +78,9 @@ module _ (s : List ℕ) (u : Summary) (bytes : List ℕ) (n : ℕ) where
       × ((out ≡ zeros (length bytes)) × (First R channelsOrder k × (AcceptedUnless R k × ((Refuses k → Empty c)
       × ((k ≡ 0 → RecordAt s u i c) × (NameAstray s u planesName → Empty c)))))))
 
-  pub one-record : {t : List ℕ} {m : ℕ} {b : Answer (List Entry)} {p : Prepared} (i : ℕ) {k : ℕ} {c : Channel} {out : List ℕ} → Ready s t n (u .components) answer m b p → k ≡ p .number
+  pub one-record : {t : List ℕ} {p : Prepared} (i : ℕ) {k : ℕ} {c : Channel} {out : List ℕ} → Ready s t n (u .components) answer p → k ≡ p .number
       → c ≡ getD (fitted n (ahead s t (p .planes))) i emptyChannel → out ≡ zeros (length bytes) → Promised i k c out
-  one-record {t} {m} {b} {p} i {k} {c} r y e z = (
+  one-record {t} {p} i {k} {c} r y e z = (
     λ cs h. x ∙ number-of cs h,
     (
       λ cs h. q ∙ ap (λ (l : List Channel). getD l i emptyChannel) (row-of cs h),
@@ -116,8 +116,8 @@ module _ (s : List ℕ) (u : Summary) (bytes : List ℕ) (row : List Channel) wh
       × First Whole channelsOrder k × AcceptedUnless Whole k × (Refuses k → Emptied (length row) zs) × (k ≡ 0 → Recorded s u (length row) zs)
       × ChannelsNamed s u (length row) zs
 
-  pub whole-row : {t : List ℕ} {m : ℕ} {b : Answer (List Entry)} {p : Prepared} {ts : List ℕ} {zs : List Channel}
-      → Ready s t (length row) (u .components) (recordsOf s u (roomIn (length bytes)) (length row)) m b p
+  pub whole-row : {t : List ℕ} {p : Prepared} {ts : List ℕ} {zs : List Channel}
+      → Ready s t (length row) (u .components) (recordsOf s u (roomIn (length bytes)) (length row)) p
       → ts ≡ zeros (length bytes) → zs ≡ fitted (length row) (ahead s t (p .planes)) → Filled (p .number) ts zs
   unfolding channelsCall
   whole-row r z e = (

@@ -7,21 +7,20 @@ use mathlib.Core.List.{List, []}
 use lib.Dec.{ltb}
 use borrow.Author.Tests.{eq-eqb, ne-eqb, lt-ltb, le-ltb}
 use Rattle.format.specs.Answer.{Answer, given, refused, refuseIf, andThen, numberOf}
-use Rattle.format.specs.Bytes.{ascii, zeros}
+use Rattle.format.specs.Bytes.{ascii}
 use Rattle.format.specs.Refusals as why
 use Rattle.format.specs.Map.{MapEntry, mapEntries, offsetOf}
 use Rattle.format.specs.Trees.{namedTree}
 use Rattle.format.specs.Channels.{PlaneRecord, covered, planeRecords}
 use Rattle.format.specs.Summary.{badSummary, mapOf}
 use Rattle.format.specs.Calls.Channels.{recordsBy, recordsOf, rowBy}
-use Rattle.format.specs.Calls.Tree.{treeBy}
 use Rattle.format.specs.declared.Entry.{Entry}
 use Rattle.format.specs.declared.Summary.{Summary}
 use Rattle.chunk.specs.Answers.{findIn}
 use Rattle.named_tree.specs.Named.{treeUnder}
 use Rattle.named_tree.proofs.Answers.{under-listed}
 use Rattle.channels.specs.Ahead.{ahead, noPlanes}
-use Rattle.channels.specs.Ready.{planesTree, Ready}
+use Rattle.channels.specs.Ready.{Ready}
 use Rattle.channels.specs.declared.Prepared.{Prepared}
 use Rattle.channels.proofs.Rows.{fitted-same, none-at, none-stands, none-left, Before}
 
@@ -31,32 +30,23 @@ planesName = ascii "ImageMetadataSeqLV|0!"
 
 -- ---- what is ready
 
-module _ (s t : List ℕ) (n most : ℕ) {a : Answer (List PlaneRecord)} {m : ℕ} {b : Answer (List Entry)} {p : Prepared} (held : t ≡ treeBy m b .buffer) where
-  pub ready-given : (ps : List PlaneRecord) → a ≡ given ps → p .number ≡ 0 → Before s t (p .planes) (covered most ps) → Ready s t n most a m b p
+module _ (s t : List ℕ) (n most : ℕ) {a : Answer (List PlaneRecord)} {p : Prepared} where
+  pub ready-given : (ps : List PlaneRecord) → a ≡ given ps → p .number ≡ 0 → Before s t (p .planes) (covered most ps) → Ready s t n most a p
   unfolding rowBy numberOf
-  ready-given ps e z (g, f) =
-      rw e (record { number = z; stands = g; row = fitted-same n (covered most ps) (ahead s t (p .planes)) λ k. sym (f k); table = held })
+  ready-given ps e z (g, f) = rw e (record { number = z; stands = g; row = fitted-same n (covered most ps) (ahead s t (p .planes)) λ k. sym (f k) })
 
   module _ (q : p .planes ≡ noPlanes) where
-    pub ready-refused : (x : ℕ) → a ≡ refused x → p .number ≡ x → Ready s t n most a m b p
+    pub ready-refused : (x : ℕ) → a ≡ refused x → p .number ≡ x → Ready s t n most a p
     unfolding rowBy numberOf
     ready-refused x e z =
-        rw e
-        (record { number = z; stands = rw q (none-stands s t); row = rw q (fitted-same n [] (ahead s t noPlanes) λ k. sym (none-at s t k)); table = held })
+        rw e (record { number = z; stands = rw q (none-stands s t); row = rw q (fitted-same n [] (ahead s t noPlanes) λ k. sym (none-at s t k)) })
 
-    pub ready-empty : a ≡ given [] → p .number ≡ 0 → Ready s t n most a m b p
+    pub ready-empty : a ≡ given [] → p .number ≡ 0 → Ready s t n most a p
     ready-empty e z = ready-given [] e z (none-left s t most q refl)
 
--- the same of records and of a tree that are equal
-pub ready-same : {s t : List ℕ} {n most m : ℕ} {a c : Answer (List PlaneRecord)} {b d : Answer (List Entry)} {p : Prepared}
-    → (a ≡ c) × (b ≡ d) → Ready s t n most c m d p → Ready s t n most a m b p
-ready-same (e, f) r = rw (e, f) r
-
--- refused before a tree is read: no records, and a table of zeros
-pub turned-away : {s t : List ℕ} {n most : ℕ} {a : Answer (List PlaneRecord)} {m : ℕ} {b : Answer (List Entry)} {p : Prepared} (x : ℕ)
-    → (a ≡ refused x) × (b ≡ refused x) → (p .number ≡ x) × (p .planes ≡ noPlanes) × (t ≡ zeros m) → Ready s t n most a m b p
-unfolding treeBy
-turned-away {s} {t} {n} {most} x (e, f) (z, q, g) = ready-refused s t n most (rw f g) q x e z
+-- the same of records that are equal
+pub ready-same : {s t : List ℕ} {n most : ℕ} {a c : Answer (List PlaneRecord)} {p : Prepared} → a ≡ c → Ready s t n most c p → Ready s t n most a p
+ready-same e r = rw e r
 
 -- ---- the refusals in order
 
@@ -115,43 +105,32 @@ module _ (s : List ℕ) (u : Summary) (n : ℕ) {A : Type 0} (k : List MapEntry 
           go : (x : Answer (Option ℕ)) → x ≡ given (found .0) → andThen x (λ _. refuseIf (ltb n (u .components)) why.channelRow (h x)) ≡ h x
           go x e = rw (e, le-ltb n (u .components) f) refl
 
--- the same of the records, and of the tree that they are in
+-- the same of the records
 module _ (s : List ℕ) (u : Summary) (room n : ℕ) where
-  abbrev treeOf : List MapEntry → Answer (List Entry)
-  treeOf es = namedTree s (mapOf s u) es room planesName
-
-  abbrev listed : (es : List MapEntry) → treeUnder s room planesName (given (offsetOf (mapOf s u) planesName es)) ≡ treeOf es
-  listed es = under-listed s room planesName (mapOf s u) es
-
-  -- the planes of that tree
+  -- the planes of the tree under the name
   abbrev planesBy : List MapEntry → Answer (List PlaneRecord)
-  planesBy es = recordsBy s (treeOf es)
+  planesBy es = recordsBy s (namedTree s (mapOf s u) es room planesName)
 
   abbrev planesUnder : Answer (Option ℕ) → Answer (List PlaneRecord)
   planesUnder x = recordsBy s (treeUnder s room planesName x)
 
   abbrev planes-listed : (es : List MapEntry) → planesUnder (given (offsetOf (mapOf s u) planesName es)) ≡ planesBy es
-  planes-listed es = ap (recordsBy s) (listed es)
+  planes-listed es = ap (recordsBy s) (under-listed s room planesName (mapOf s u) es)
 
-  -- both are refused with the number x
-  abbrev Both : ℕ → Type 0
-  Both x = (recordsOf s u room n ≡ refused x) × (planesTree s u room n ≡ refused x)
-
-  pub bad-summary : badSummary s u ≡ true → Both why.summary
-  unfolding recordsOf planesTree
-  bad-summary e = (by-summary s u n planesBy e, by-summary s u n treeOf e)
+  pub bad-summary : badSummary s u ≡ true → recordsOf s u room n ≡ refused why.summary
+  unfolding recordsOf
+  bad-summary e = by-summary s u n planesBy e
 
   module _ (g : badSummary s u ≡ false) {l : Answer (Option ℕ)} (q : l ≡ findIn (mapOf s u) planesName) where
-    pub no-map : l ≡ refused why.map → Both why.map
-    unfolding recordsOf planesTree
-    no-map e = (by-map s u n planesBy planesUnder planes-listed g q e, by-map s u n treeOf (treeUnder s room planesName) listed g q e)
+    pub no-map : l ≡ refused why.map → recordsOf s u room n ≡ refused why.map
+    unfolding recordsOf
+    no-map e = by-map s u n planesBy planesUnder planes-listed g q e
 
     module _ (found : (o : Option ℕ) × (l ≡ given o)) where
-      pub short-row : n < u .components → Both why.channelRow
-      unfolding recordsOf planesTree
-      short-row f = (by-row s u n planesBy planesUnder planes-listed g q found f, by-row s u n treeOf (treeUnder s room planesName) listed g q found f)
+      pub short-row : n < u .components → recordsOf s u room n ≡ refused why.channelRow
+      unfolding recordsOf
+      short-row f = by-row s u n planesBy planesUnder planes-listed g q found f
 
-      pub read-on : u .components ≤ n
-          → (recordsOf s u room n ≡ recordsBy s (treeUnder s room planesName l)) × (planesTree s u room n ≡ treeUnder s room planesName l)
-      unfolding recordsOf planesTree
-      read-on f = (goes-on s u n planesBy planesUnder planes-listed g q found f, goes-on s u n treeOf (treeUnder s room planesName) listed g q found f)
+      pub read-on : u .components ≤ n → recordsOf s u room n ≡ recordsBy s (treeUnder s room planesName l)
+      unfolding recordsOf
+      read-on f = goes-on s u n planesBy planesUnder planes-listed g q found f

@@ -29,7 +29,7 @@ ghost use Rattle.format.specs.declared.Channel.{Channel};
 ghost use Rattle.chunk.specs.Answers.{lookupOf};
 ghost use Rattle.named_tree.specs.Named.{treeUnder};
 ghost use Rattle.channels.specs.Ahead.{ahead, Stands, Follows, noPlanes};
-ghost use Rattle.channels.specs.Ready.{planesTree, Ready, IsBroken};
+ghost use Rattle.channels.specs.Ready.{Ready, IsBroken};
 
 mod record; // the record of one plane
 pub mod planes; // a walk over the components
@@ -59,14 +59,6 @@ fn without(number: u32) -> Prepared
     }
 }
 
-// A call without records, and a table of zeros.
-fn emptied(table: &mut [u8], number: u32) -> Prepared
-    ensures { λ r. ⌜ (r .number ≡ number) × (r .planes ≡ noPlanes) × (now (table .exit) ≡ zeros (length (now (table .entry)))) ⌝ }
-{
-    clear(table);
-    without(number)
-}
-
 // Whether the map is refused.
 fn is_broken(at: Lookup) -> bool
     ensures { λ r. ⌜ IsBroken r (lookupOf at) ⌝ }
@@ -81,9 +73,7 @@ fn is_broken(at: Lookup) -> bool
 // The plane records of the tree that a lookup found, read into the table: of its refusals only 18 stops them.
 fn read_planes(file: &[u8], at: Lookup, table: &mut [u8], most: u64, row: usize) -> Prepared
     ensures { λ r. ⌜ Ready (now (file .entry)) (now (table .exit)) row most
-        (recordsBy (now (file .entry)) (treeUnder (now (file .entry)) (roomIn (length (now (table .entry)))) (ascii "ImageMetadataSeqLV|0!") (lookupOf at)))
-        (length (now (table .entry)))
-        (treeUnder (now (file .entry)) (roomIn (length (now (table .entry)))) (ascii "ImageMetadataSeqLV|0!") (lookupOf at)) r ⌝ }
+        (recordsBy (now (file .entry)) (treeUnder (now (file .entry)) (roomIn (length (now (table .entry)))) (ascii "ImageMetadataSeqLV|0!") (lookupOf at))) r ⌝ }
 {
     match read_named(file, b"ImageMetadataSeqLV|0!", at, table) {
         Parsed::Refused(n) => {
@@ -99,23 +89,21 @@ fn read_planes(file: &[u8], at: Lookup, table: &mut [u8], most: u64, row: usize)
     }
 }
 
-// Every refusal in order, and the plane records of a row of `row` records. The table holds the tree that they are in,
-// and is all zero where none was read.
+// Every refusal in order, and the plane records of a row of `row` records, in the tree that the table holds then.
 pub fn prepare(file: &[u8], u: Summary, table: &mut [u8], row: usize) -> Prepared
     ensures { λ r. ⌜ Ready (now (file .entry)) (now (table .exit)) row (u .components)
-        (recordsOf (now (file .entry)) u (roomIn (length (now (table .entry)))) row)
-        (length (now (table .entry))) (planesTree (now (file .entry)) u (roomIn (length (now (table .entry)))) row) r ⌝ }
+        (recordsOf (now (file .entry)) u (roomIn (length (now (table .entry)))) row) r ⌝ }
 {
     if bad_summary(file, u) {
-        return emptied(table, refusal::SUMMARY);
+        return without(refusal::SUMMARY);
     }
     let map = data_of(file, u.map.start, u.map.len);
     let at = look_up(map, b"ImageMetadataSeqLV|0!");
     if is_broken(at) {
-        return emptied(table, refusal::MAP);
+        return without(refusal::MAP);
     }
     if (row as u64) < u.components {
-        return emptied(table, refusal::CHANNEL_ROW);
+        return without(refusal::CHANNEL_ROW);
     }
     read_planes(file, at, table, u.components, row)
 }

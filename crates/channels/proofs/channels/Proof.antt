@@ -49,7 +49,7 @@ use Rattle.format.proofs.Channel as T
 use Rattle.format.proofs.Summary as S
 use Rattle.format.proofs.Summary.Laws as S′
 use Rattle.channels.specs.Ahead.{ahead, Stands}
-use Rattle.channels.specs.Ready.{planesTree, Ready}
+use Rattle.channels.specs.Ready.{Ready}
 use Rattle.channels.specs.declared.planes.Planes.{Planes}
 use Rattle.channels.specs.declared.Prepared.{Prepared}
 use Rattle.channels.proofs.Again.{LentAgain, lends-again, comes-back}
@@ -164,7 +164,7 @@ module _ {M : Type 1} (𝓤 : URA M) (H : Heap 𝓤) (A : Atoms 𝓤) (W : Given
 
   -- what the call makes of a row of n records
   abbrev Answered : List ℕ → Prepared → Type 0
-  Answered l r = Ready s l n (u .components) (recordsOf s u (roomIn (length t)) n) (length t) (planesTree s u (roomIn (length t)) n) r
+  Answered l r = Ready s l n (u .components) (recordsOf s u (roomIn (length t)) n) r
 
   -- what `prepare` is passed: the table lent again for the lifetime ν, under the name δ
   abbrev to-prep : ℕ → GName → Prep 𝓤 H A mem run .Ghost

@@ -8,7 +8,7 @@ use Rattle.format.specs.Bytes.{ascii}
 use Rattle.format.specs.Summary.{badSummary, mapOf}
 use Rattle.format.proofs.Summaries.{sound-read}
 use Rattle.chunk.specs.Answers.{lookupOf, findIn}
-use Rattle.channels.proofs.Readying.{planesName, ready-same, turned-away, bad-summary, no-map, short-row, read-on}
+use Rattle.channels.proofs.Readying.{planesName, ready-refused, ready-same, bad-summary, no-map, short-row, read-on}
 use borrow.Author.Needs.{needs}
 use Rattle.channels.proofs.prepare.Statement.{statement}
 use Rattle.channels.proofs.prepare.Tie as tie
@@ -16,16 +16,14 @@ use Rattle.channels.proofs.prepare.Tie as tie
 bad-summary-requires : tie.Need-bad-summary-requires
 bad-summary-requires c κs = search needs
 
-emptied-requires : tie.Need-emptied-requires
-emptied-requires c κs = search needs
-
-same-length : tie.Need-same-length
-same-length c = search needs
+without-requires : tie.Need-without-requires
+without-requires c κs = search needs
 
 returns : tie.Need-returns
 returns c =
-    let i = c .before .before .before .before in
-    turned-away 20 (bad-summary _ _ _ _ (sym (i .before .bad-summary .ensures) ∙ i .if1 .taken)) (c .before .before .emptied .ensures)
+    let w = c .without .ensures in
+    let i = c .before in
+    ready-refused _ _ _ _ (w .1) 20 (bad-summary _ _ _ _ (sym (i .before .bad-summary .ensures) ∙ i .if1 .taken)) (w .0)
 
 -- the summary passed, and the map is looked at
 module _ (c : tie.Else1) where
@@ -51,37 +49,32 @@ look-up-requires c κs = search needs
 is-broken-requires : tie.Need-is-broken-requires
 is-broken-requires c κs = search needs
 
-emptied-requires-2 : tie.Need-emptied-requires-2
-emptied-requires-2 c κs = search needs
-
-same-length-2 : tie.Need-same-length-2
-same-length-2 c = search needs
+without-requires-2 : tie.Need-without-requires-2
+without-requires-2 c κs = search needs
 
 returns-2 : tie.Need-returns-2
 returns-2 c =
-    let i = c .before .before .before .before in
+    let w = c .without2 .ensures in
+    let i = c .before in
     let b = i .before in
-    turned-away 5 (no-map _ _ _ _ (passed (b .before .before .before .before)) (looked b) (rw (i .if2 .taken) at (b .is-broken .ensures))) (c .before .before .emptied2 .ensures)
+    ready-refused _ _ _ _ (w .1) 5 (no-map _ _ _ _ (passed (b .before .before .before .before)) (looked b) (rw (i .if2 .taken) at (b .is-broken .ensures))) (w .0)
 
-emptied-requires-3 : tie.Need-emptied-requires-3
-emptied-requires-3 c κs = search needs
-
-same-length-3 : tie.Need-same-length-3
-same-length-3 c = search needs
+without-requires-3 : tie.Need-without-requires-3
+without-requires-3 c κs = search needs
 
 returns-3 : tie.Need-returns-3
 returns-3 c =
-    let i = c .before .before .before .before in
+    let w = c .without3 .ensures in
+    let i = c .before in
     let d = i .before .before in
     let b = d .before in
-    turned-away 19 (short-row _ _ _ _ (passed (b .before .before .before .before)) (looked b) (rw (d .if2 .left) at (b .is-broken .ensures)) (i .if3 .taken))
-    (c .before .before .emptied3 .ensures)
+    ready-refused _ _ _ _ (w .1) 19 (short-row _ _ _ _ (passed (b .before .before .before .before)) (looked b) (rw (d .if2 .left) at (b .is-broken .ensures)) (i .if3 .taken)) (w .0)
 
 read-planes-requires : tie.Need-read-planes-requires
 read-planes-requires c κs = search needs
 
-same-length-4 : tie.Need-same-length-4
-same-length-4 c = search needs
+same-length : tie.Need-same-length
+same-length c = search needs
 
 returns-4 : tie.Need-returns-4
 returns-4 c =
@@ -96,19 +89,16 @@ prepare-spec =
     tie.close
     (tie.spec
     bad-summary-requires
-    emptied-requires
-    same-length
+    without-requires
     returns
     data-of-requires
     slice-aggregate-look-up
     look-up-requires
     is-broken-requires
-    emptied-requires-2
-    same-length-2
+    without-requires-2
     returns-2
-    emptied-requires-3
-    same-length-3
+    without-requires-3
     returns-3
     read-planes-requires
-    same-length-4
+    same-length
     returns-4)

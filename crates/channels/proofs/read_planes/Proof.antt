@@ -32,7 +32,7 @@ unfolding ascii
 returns c =
     let n = c .before .before .before in
     let h = rw (n .n .given .1) at (n .before .before .before .before .read-named .ensures) in
-    ready-refused _ _ _ _ (h .table) (c .without .ensures .1) 18 (by-table _ _ (h .answer) (c .before .if1 .taken)) (c .without .ensures .0)
+    ready-refused _ _ _ _ (c .without .ensures .1) 18 (by-table _ _ (h .answer) (c .before .if1 .taken)) (c .without .ensures .0)
 
 without-requires-2 : tie.Need-without-requires-2
 without-requires-2 c κs = search needs
@@ -44,7 +44,7 @@ enum-known-used c = search needs
 module _ (c : tie.After-known-told2) where
   whole : let d = c .before .before .before .before .before in
       let a = d .before .before .before .before .before .args in
-      Reads (now (a .file)) (d .read-named .last .1 .1 .1 .0) (length (now (a .table)))
+      Reads (now (a .file)) (d .read-named .last .1 .1 .1 .0)
       (treeUnder (now (a .file)) (roomIn (length (now (a .table)))) planesName (lookupOf (a .at)))
       (Entries (c .before .used .given .0 .0))
   unfolding ascii
@@ -61,7 +61,7 @@ unfolding ascii
 returns-2 c =
     let n = c .before .before .before in
     let h = rw (n .n .given .1) at (n .before .before .before .before .read-named .ensures) in
-    ready-empty _ _ _ _ (h .table) (c .without2 .ensures .1) (by-fault _ _ (h .answer) (c .before .if1 .left)) (c .without2 .ensures .0)
+    ready-empty _ _ _ _ (c .without2 .ensures .1) (by-fault _ _ (h .answer) (c .before .if1 .left)) (c .without2 .ensures .0)
 
 same-length-3 : tie.Need-same-length-3
 same-length-3 c = search needs
@@ -69,7 +69,7 @@ same-length-3 c = search needs
 returns-3 : tie.Need-returns-3
 returns-3 c =
     let h = whole (c .before .before) in
-    ready-given _ _ _ _ (h .table) _ (by-given _ _ (h .answer)) refl (c .planes-in .ensures)
+    ready-given _ _ _ _ _ (by-given _ _ (h .answer)) refl (c .planes-in .ensures)
 
 pub read-planes-spec : {M : Type 1} → statement M
 read-planes-spec =

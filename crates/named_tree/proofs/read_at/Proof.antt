@@ -25,7 +25,7 @@ data-of-requires : tie.Need-data-of-requires
 data-of-requires c κs = rw (c .before .r .given .1) at (c .before .before .before .chunk-data .ensures .1)
 
 parse-clx-variant-requires : tie.Need-parse-clx-variant-requires
-parse-clx-variant-requires c κs = 
+parse-clx-variant-requires c κs =
     let r = c .before .before .before in
     let h = rw (r .r .given .1) at (r .before .before .chunk-data .ensures .1) in
     omega (arith, h, ap length (c .before .data-of .ensures) ∙ part-length _ _ _ h)
@@ -40,7 +40,7 @@ same-length : tie.Need-same-length
 same-length c = search needs
 
 returns-3 : tie.Need-returns-3
-returns-3 c = 
+returns-3 c =
     let p = c .before .before .parse-clx-variant in
     let d = c .before .before .before .before in
     let r = d .before .before .r .given .1 in
