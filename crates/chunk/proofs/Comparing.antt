@@ -1,18 +1,26 @@
 -- Bytes compared part by part, in any order: the parts joined, and the answer. Assumes nothing.
-use Prim.Native.Nat.{ℕ, _+_, _≤_, _<_}
+use Prim.Native.Nat.{ℕ, zero, suc, _+_, _≤_, _<_}
 use mathlib.Core.Path.{_≡_, refl, sym, ap, _∙_}
 use mathlib.Core.Bool.{Bool, true, false, _&&_, true≢false, false≢true}
 use mathlib.Core.List.{List}
 use native.Mathlib.Omega.{arith}
-use native.Mathlib.Nat.{add-assoc}
+use native.Mathlib.Nat.{add-assoc, add-zero, add-suc, suc-add}
 use lib.Dec.{eqb, ltb}
 use lib.ListN.{length, getD}
 use lib.Seq.{ext-getD}
 use borrow.Author.Tests.{eqb-true, eqb-false, ltb-true, ltb-false}
-use Rattle.format.specs.Bytes.{part, same}
-use Rattle.format.proofs.Bytes.{part-length, part-at}
-use Rattle.format.proofs.Tests.{same-true, true-same}
-use Rattle.chunk.specs.Alike.{Alike, Tells}
+use Rattle.format.specs.Bytes.{leAt, part, same}
+use Rattle.format.proofs.Bytes.{part-length, part-at, part-other}
+use Rattle.format.proofs.Tests.{same-true, true-same, false-same}
+use Rattle.chunk.specs.Alike.{Alike, Foreign, Tells}
+
+-- a number in bytes that stand elsewhere too
+le-moved : (n : ℕ) (s t : List ℕ) (i j : ℕ) → ((k : ℕ) → k < n → getD s (i + k) 0 ≡ getD t (j + k) 0) → leAt n s i ≡ leAt n t j
+unfolding leAt
+le-moved zero s t i j f = refl
+le-moved (suc n) s t i j f =
+    let first = rw (add-zero, add-zero) at (f 0 (omega arith)) in
+    rw (first, le-moved n s t (suc i) (suc j) λ k l. rw (suc-add, suc-add, ← add-suc, ← add-suc) (f (suc k) (omega arith)))
 
 module _ {s : List ℕ} {at : ℕ} {e : List ℕ} where
   pub alike-none : (i n : ℕ) → n ≤ i → Alike s at e i n
@@ -56,14 +64,27 @@ module _ {s : List ℕ} {at : ℕ} {e : List ℕ} where
       })
   tells-more false i j f = differs (f .no refl) (omega arith) (omega arith)
 
+  part-alike : part s at (length e) ≡ e → Alike s at e 0 (length e)
+  part-alike z = record { equal = λ k l m. sym (part-at s at (length e) k l) ∙ ap (λ (x : List ℕ). getD x k 0) z }
+
+  -- where there is no room for e, or a number in it differs, no part is e
+  pub foreign-short : length s < at + length e → Foreign s at e
+  foreign-short h = record { other = λ n l. part-other s e at n l (omega arith) }
+
+  pub foreign-number : (k i : ℕ) → i + k ≤ length e → (leAt k s (at + i) ≡ leAt k e i → ⊥) → Foreign s at e
+  foreign-number k i h f = record { other = λ n l. false-same _ _ (by n l) }
+    where
+      by : (n : ℕ) → at + n ≤ length s → part s at n ≡ e → ⊥
+      by n l z =
+          let q : n ≡ length e = sym (part-length s at n l) ∙ ap length z in
+          let a = part-alike (rw q at z) in
+          f (le-moved k s e (at + i) i λ j o. rw (add-assoc at i j) (a .equal (i + j) (omega arith) (omega arith)))
+
   pub told : {t : Bool} → at + length e ≤ length s → Tells t (Alike s at e 0 (length e)) → t ≡ same (part s at (length e)) e
   told {t} f h = by (same (part s at (length e)) e) refl t h
     where
       q : length (part s at (length e)) ≡ length e
       q = part-length s at (length e) f
-
-      alike : part s at (length e) ≡ e → Alike s at e 0 (length e)
-      alike z = record { equal = λ k l m. sym (part-at s at (length e) k l) ∙ ap (λ (x : List ℕ). getD x k 0) z }
 
       equals : Alike s at e 0 (length e) → part s at (length e) ≡ e
       equals a = ext-getD 0 (part s at (length e)) e q λ k o. let l : k < length e = omega (arith, q) in part-at s at (length e) k l ∙ a .equal k l (omega arith)
@@ -71,5 +92,5 @@ module _ {s : List ℕ} {at : ℕ} {e : List ℕ} where
       by : (b : Bool) → same (part s at (length e)) e ≡ b → (t : Bool) → Tells t (Alike s at e 0 (length e)) → t ≡ b
       by true z true g = refl
       by false z false g = refl
-      by true z false g = absurd (g .no refl (alike (same-true _ _ z)))
+      by true z false g = absurd (g .no refl (part-alike (same-true _ _ z)))
       by false z true g = absurd (false≢true (sym z ∙ true-same _ _ (equals (g .yes refl))))

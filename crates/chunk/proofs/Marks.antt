@@ -1,18 +1,21 @@
--- Bytes among which no '!' stands, 16 at a time, and the first '!' after them. Assumes nothing.
-use Prim.Native.Nat.{ℕ, _+_, _-_, _≤_, _<_}
-use mathlib.Core.Path.{_≡_, refl, sym}
-use mathlib.Core.Bool.{Bool, true, false, _||_}
+-- Bytes among which no '!' stands, by digits that say where one does, and the first '!' after them. Assumes nothing.
+use Prim.Native.Nat.{ℕ, zero, suc, _+_, _-_, _*_, _/_, _%_, _^_, _≤_, _<_}
+use mathlib.Core.Path.{_≡_, refl, sym, ap, _∙_}
+use mathlib.Core.Bool.{Bool, true, false, cond}
 use mathlib.Core.Option.{none, some}
 use mathlib.Core.List.{List}
 use native.Mathlib.Omega.{arith}
 use native.Mathlib.Numerals.{add-one}
+use native.Mathlib.Nat.{add-zero, add-suc, mul-one, mul-le-mul-left}
+use lib.Bits.{block-half, block-odd, shifted-half, shifted-even}
+use lib.Count.{trailingZeros, under, trailing-of-zero, trailing-le}
 use lib.ListN.{length, getD, drop}
+use lib.Pow.{pow-add}
 use lib.Dec.{eqb, ltb}
-use borrow.Author.Tests.{eqb-false, ltb-true, ltb-false}
+use borrow.Author.Tests.{ltb-true, ltb-false, ne-eqb}
 use Rattle.format.specs.Map.{throughMark}
 use Rattle.format.proofs.Maps.{through-name, through-none}
-use Rattle.format.proofs.Tests.{or-left, or-right}
-use Rattle.chunk.specs.Scan.{Clear, Skipped}
+use Rattle.chunk.specs.Scan.{Clear, Marked, firstThen, Skipped}
 
 pub clear-none : (s : List ℕ) (a b : ℕ) → b ≤ a → Clear s a b
 clear-none s a b o = record { clear = λ k l h. absurd (omega arith) }
@@ -37,24 +40,77 @@ module _ {s : List ℕ} {a b : ℕ} (f : Clear s a b) where
   pub unmarked : length s ≤ b → none ≡ throughMark (drop a s)
   unmarked l = sym (through-none s a λ k n. f .clear (a + k) (omega (arith, n .name-within)) (omega arith) (n .mark))
 
--- j bytes were looked at, and none is '!' where none was hit
-pub record Missed (s : List ℕ) (at : ℕ) (hit : Bool) (j : ℕ) : Type 0 where
-  pub few : j ≤ 16
-  pub miss : hit ≡ false → Clear s at (at + j)
+-- ---- the lowest digit that is 1
 
-pub missed-none : (s : List ℕ) (at : ℕ) → Missed s at false 0
-missed-none s at = record { few = omega arith; miss = λ e. clear-none s at (at + 0) (omega arith) }
+low-none : (n k b : ℕ) → trailingZeros (k + n) (b * 2 ^ n) ≡ trailingZeros k b + n
+unfolding trailingZeros
+low-none zero k b = rw (add-zero, add-zero, mul-one)
+low-none (suc n) k b = rw (add-suc, shifted-even, shifted-half, low-none n k b, add-suc)
 
-module _ {s : List ℕ} {at : ℕ} {hit : Bool} {j : ℕ} (h : Missed s at hit j) where
-  pub missed-more : j < 16 → Missed s at (hit || eqb (getD s (at + j) 0) 33) (j + 1)
-  missed-more l =
-      record { few = omega arith; miss = λ e. let z : at + (j + 1) ≡ at + j + 1 = omega arith in rw z (clear-more (h .miss (or-left hit _ e)) (eqb-false _ _ (or-right hit _ e))) }
+low-set : (n k a b : ℕ) → 0 < a → a < 2 ^ n → trailingZeros (k + n) (b * 2 ^ n + a) ≡ trailingZeros n a
+unfolding trailingZeros
+low-set zero k a b o h = absurd (omega arith)
+low-set (suc n) k a b o h = rw (add-suc, block-odd, block-half) (by (a % 2) refl (low-set n k (a / 2) b))
+  where
+    by : (r : ℕ) → a % 2 ≡ r → (0 < a / 2 → a / 2 < 2 ^ n → trailingZeros (k + n) (b * 2 ^ n + a / 2) ≡ trailingZeros n (a / 2))
+        → under r (trailingZeros (k + n) (b * 2 ^ n + a / 2)) ≡ under r (trailingZeros n (a / 2))
+    by zero q f = ap suc (f (omega arith) (omega arith))
+    by (suc r) q f = refl
 
-  pub missed-all : 16 ≤ j → hit ≡ false → Clear s at (at + 16)
-  missed-all l e = let z : j ≡ 16 = omega (arith, h .few) in rw z at (h .miss e)
+-- of m and a 1 behind its 16 digits
+pub lowest : (m : ℕ) → m < 2 ^ 16 → trailingZeros 32 (m + 65536) ≡ trailingZeros 16 m
+unfolding trailingZeros
+lowest zero h = low-none 16 16 1 ∙ sym (trailing-of-zero 16)
+lowest (suc m) h = let z : suc m + 65536 ≡ 1 * 2 ^ 16 + suc m = omega arith in rw z (low-set 16 16 (suc m) 1 (omega arith) h)
+
+-- ---- digits that say where '!' stands
+
+pub marked-one : (s : List ℕ) (at : ℕ) → Marked s at 1 1
+unfolding trailingZeros
+marked-one s at = record { low = omega arith; clear = clear-none s at (at + 0) (omega arith) }
+
+pub marked-none : (s : List ℕ) (at : ℕ) → (getD s at 0 ≡ 33 → ⊥) → Marked s at 1 0
+unfolding trailingZeros
+marked-none s at e = record { low = omega arith; clear = clear-more (clear-none s at at (omega arith)) e }
+
+module _ {s : List ℕ} {at n a b : ℕ} (f : Marked s at n a) (g : Marked s (at + n) n b) where
+  join-low : a + 2 ^ n * b < 2 ^ (n + n)
+  join-low = rw (pow-add 2 n n) (omega (arith, f .low, mul-le-mul-left (2 ^ n) (g .low)))
+
+  join-clear : (a : ℕ) → Marked s at n a → Clear s at (at + trailingZeros (n + n) (b * 2 ^ n + a))
+  join-clear zero f =
+      rw (add-zero, low-none n n b)
+      (let z : at + (trailingZeros n b + n) ≡ at + n + trailingZeros n b = omega arith in rw z (clear-join (rw (trailing-of-zero n) at (f .clear)) (g .clear)))
+  join-clear (suc a) f = rw (low-set n n (suc a) b (omega arith) (f .low)) (f .clear)
+
+  pub marked-join : Marked s at (n + n) (a + 2 ^ n * b)
+  marked-join = record { low = join-low; clear = let z : a + 2 ^ n * b ≡ b * 2 ^ n + a = omega arith in rw z (join-clear a f) }
+
+-- ---- places with no '!' before them
+
+-- f of n bytes were passed
+pub record Ahead (s : List ℕ) (at f n : ℕ) : Type 0 where
+  pub few : f ≤ n
+  pub clear : Clear s at (at + f)
+
+pub ahead-first : {s : List ℕ} {at m f : ℕ} → Marked s at 16 m → f ≡ trailingZeros 16 m → Ahead s at f 16
+ahead-first {m = m} h e = rw e (record { few = trailing-le 16 m; clear = h .clear })
+
+pub ahead-then : {s : List ℕ} {at p m f n r : ℕ} → Marked s at 16 m → Ahead s p f n → p ≡ at + 16 → r ≡ firstThen m f → Ahead s at r (16 + n)
+unfolding firstThen
+ahead-then {s} {at} {p} {m} {f} {n} h g q e = rw e (by m h)
+  where
+    by : (m : ℕ) → Marked s at 16 m → Ahead s at (cond (eqb m 0) (16 + f) (trailingZeros 16 m)) (16 + n)
+    by zero h =
+        let z : at + (16 + f) ≡ p + f = omega arith in
+        record { few = omega (arith, g .few); clear = rw z (clear-join (rw (trailing-of-zero 16, ← q) at (h .clear)) (g .clear)) }
+    by (suc m) h = rw (ne-eqb (suc m) 0 (omega arith)) (record { few = omega (arith, trailing-le 16 (suc m)); clear = h .clear })
 
 pub skipped-none : (s : List ℕ) (a : ℕ) → a ≤ length s → Skipped s a a
 skipped-none s a l = record { from = omega arith; inside = l; clear = clear-none s a a (omega arith) }
 
-pub skipped-more : {s : List ℕ} {a i : ℕ} → Skipped s a i → i + 16 ≤ length s → Clear s i (i + 16) → Skipped s a (i + 16)
-skipped-more h l m = record { from = omega (arith, h .from); inside = l; clear = clear-join (h .clear) m }
+pub skipped-ahead : {s : List ℕ} {a f n : ℕ} → Ahead s a f n → a + n ≤ length s → Skipped s a (a + f)
+skipped-ahead h l = record { from = omega arith; inside = omega (arith, h .few); clear = h .clear }
+
+pub skipped-more : {s : List ℕ} {a i r : ℕ} → Skipped s a i → (getD s i 0 ≡ 33 → ⊥) → Skipped s (i + 1) r → Skipped s a r
+skipped-more h e g = record { from = omega (arith, h .from, g .from); inside = g .inside; clear = clear-join (clear-more (h .clear) e) (g .clear) }

@@ -8,13 +8,13 @@ use native.Mathlib.Omega.{arith}
 use lib.ListN.{length, drop}
 use Rattle.format.specs.Bytes.{leAt, part, same}
 use Rattle.format.specs.Answer.{Answer, given, refused, andThen, numberOf}
-use Rattle.format.specs.Map.{MapEntry, throughMark, endMark, mapFrom, mapEntries, mostEntries, offsetOf}
+use Rattle.format.specs.Map.{MapEntry, throughMark, endMark, mapFrom, mapEntries, mostEntries, offsetOf, prepend}
 use Rattle.format.proofs.Maps.{map-none, map-end, map-full, map-cut, map-entry, lastOf, last-start, gives, last-entry}
-use Rattle.chunk.specs.Answers.{lookupOf, givesOf, laterOf, findIn}
+use Rattle.chunk.specs.Answers.{lookupOf, findIn}
 use borrow.Author.Tests.{eq-eqb, ne-eqb, lt-ltb, le-ltb}
 use Rattle.chunk.specs.Scan.{entryAt, Entry, Stands, nextIn}
 use Rattle.chunk.specs.declared.map.Lookup.{Lookup}
-use Rattle.chunk.specs.declared.map.Lookup.the-variants.{Absent}
+use Rattle.chunk.specs.declared.map.Lookup.the-variants.{At, Absent}
 use Rattle.chunk.specs.declared.map.Next.{Next}
 use Rattle.chunk.specs.declared.map.Next.the-variants.{Named, End, Broken}
 
@@ -80,24 +80,39 @@ module _ {m name : List ℕ} {at count : ℕ} {last : Lookup} (h : Scanned m nam
         → findIn m name ≡ lastOf m name b (mapFrom (mostEntries - (count + 1)) m (at + n + 16))
     on b q = h .rest ∙ rw (e .reads, q) (last-entry m name (entryAt m at n) (h .best) (mapFrom (mostEntries - (count + 1)) m (at + n + 16)))
 
-    pub scan-on : {r x : Lookup} → r ≡ laterOf last x → x ≡ givesOf (same (part m at n) name) (leAt 8 m (at + n)) → Scanned m name (at + n + 16) (count + 1) r
-    scan-on {r} {x} q g = by (same (part m at n) name) refl (q ∙ ap (laterOf last) g)
-      where
-        next : (b : Option ℕ) → lookupOf r ≡ given b → b ≡ gives (same (part m at n) name) (leAt 8 m (at + n)) (h .best)
-            → Scanned m name (at + n + 16) (count + 1) r
-        next b k p = record { few = omega (arith, e .free); within = e .inside; best = b; kept = k; rest = on b p }
+    next : (b : Option ℕ) → b ≡ gives (same (part m at n) name) (leAt 8 m (at + n)) (h .best) → (r : Lookup) → lookupOf r ≡ given b
+        → Scanned m name (at + n + 16) (count + 1) r
+    next b p r k = record { few = omega (arith, e .free); within = e .inside; best = b; kept = k; rest = on b p }
 
-        by : (b : Bool) → same (part m at n) name ≡ b → r ≡ laterOf last (givesOf b (leAt 8 m (at + n))) → Scanned m name (at + n + 16) (count + 1) r
-        by true s p = next (some (leAt 8 m (at + n))) (rw p) (rw s)
-        by false s p = next (h .best) (rw p (h .kept)) (rw s)
+    module _ {t : Bool} (s : t ≡ same (part m at n) name) {r : Lookup} where
+      pub scan-hit : t ≡ true → {o : ℕ} → o ≡ leAt 8 m (at + n) → r ≡ At o → Scanned m name (at + n + 16) (count + 1) r
+      scan-hit y {o} q z = rw z (next (some o) (rw (← s, y, ← q)) (At o) refl)
 
--- ---- the map behind what is found
+      pub scan-miss : t ≡ false → r ≡ last → Scanned m name (at + n + 16) (count + 1) r
+      scan-miss y z = rw z (next (h .best) (rw (← s, y)) last (h .kept))
 
--- the map's own number
-pub number-is : (m name : List ℕ) {o : Answer (Option ℕ)} → o ≡ findIn m name → numberOf o ≡ numberOf (mapEntries m)
-unfolding findIn andThen numberOf
-number-is m name e = ap numberOf e ∙ by (mapEntries m)
-  where
-    by : (a : Answer (List MapEntry)) → numberOf (andThen a λ es. given (offsetOf m name es)) ≡ numberOf a
-    by (refused k) = refl
-    by (given es) = refl
+-- ---- a pass for the map's own number
+
+-- where a pass is that has taken `count` entries
+pub record Passed (m : List ℕ) (at count : ℕ) : Type 0 where
+  pub few : count ≤ mostEntries
+  pub within : at ≤ length m
+  pub rest : numberOf (mapFrom (mostEntries - count) m at) ≡ numberOf (mapEntries m)
+
+pub pass-start : (m : List ℕ) → Passed m 0 0
+unfolding mapEntries
+pass-start m = record { few = omega arith; within = omega arith; rest = refl }
+
+module _ {m : List ℕ} {at count : ℕ} (h : Passed m at count) where
+  pub pass-on : {n : ℕ} → Entry m at count n → Passed m (at + n + 16) (count + 1)
+  unfolding andThen numberOf prepend
+  pass-on {n} e =
+      let r = by (mapFrom (mostEntries - (count + 1)) m (at + n + 16)) in
+      record { few = omega (arith, e .free); within = e .inside; rest = sym r ∙ ap numberOf (sym (e .reads)) ∙ h .rest }
+    where
+      by : (a : Answer (List MapEntry)) → numberOf (andThen a (prepend (entryAt m at n))) ≡ numberOf a
+      by (refused k) = refl
+      by (given es) = refl
+
+  pub pass-stop : {a : Answer (List MapEntry)} → mapFrom (mostEntries - count) m at ≡ a → numberOf a ≡ numberOf (mapEntries m)
+  pass-stop e = ap numberOf (sym e) ∙ h .rest

@@ -1,6 +1,5 @@
 -- What each answer of this crate stands for: document 01's number, or the value.
 use Prim.Native.Nat.{ℕ, _+_, _≤_}
-use mathlib.Core.Bool.{Bool, true, false}
 use mathlib.Core.Option.{Option, none, some}
 use mathlib.Core.List.{List}
 use lib.ListN.{length}
@@ -45,14 +44,3 @@ lookupOf Broken = refused why.map
 -- the map's refusal, or what its last entry of a name gives
 unfoldable pub findIn : List ℕ → List ℕ → Answer (Option ℕ)
 findIn m name = andThen (mapEntries m) λ es. given (offsetOf m name es)
-
--- what an entry gives for a name, that it bears or not
-abbrev pub givesOf : Bool → ℕ → Lookup
-givesOf true o = At o
-givesOf false o = Absent
-
--- the second of two answers, or the first where that is absent
-abbrev pub laterOf : Lookup → Lookup → Lookup
-laterOf first (At o) = At o
-laterOf first Absent = first
-laterOf first Broken = Broken

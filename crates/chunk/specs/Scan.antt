@@ -1,9 +1,10 @@
 -- What a scan of the map's data passes over, and what it finds.
-use Prim.Native.Nat.{ℕ, _+_, _-_, _≤_, _<_}
+use Prim.Native.Nat.{ℕ, _+_, _-_, _^_, _≤_, _<_}
 use mathlib.Core.Path.{_≡_}
 use mathlib.Core.Bool.{cond}
 use mathlib.Core.Option.{Option, none, some}
 use mathlib.Core.List.{List, []}
+use lib.Count.{trailingZeros}
 use lib.ListN.{length, getD, drop}
 use lib.Dec.{eqb, ltb}
 use Rattle.format.specs.Bytes.{leAt, part, same}
@@ -18,6 +19,15 @@ use Rattle.chunk.specs.declared.map.Next.the-variants.{Named, End, Broke
 -- no '!' stands from a up to b
 pub record Clear (s : List ℕ) (a b : ℕ) : Type 0 where
   pub clear : (k : ℕ) → k < b → a ≤ k → getD s k 0 ≡ 33 → ⊥
+
+-- the n digits of m have their lowest 1 no later than where the first '!' of the n bytes from `at` on stands
+pub record Marked (s : List ℕ) (at n m : ℕ) : Type 0 where
+  pub low : m < 2 ^ n
+  pub clear : Clear s at (at + trailingZeros n m)
+
+-- the place of the lowest 1 of 16 digits, or one behind them
+unfoldable pub firstThen : ℕ → ℕ → ℕ
+firstThen m behind = cond (eqb m 0) (16 + behind) (trailingZeros 16 m)
 
 -- r is a place from a on, and no '!' stands before it
 pub record Skipped (s : List ℕ) (a r : ℕ) : Type 0 where

@@ -4,42 +4,85 @@ use super::names::is_end;
 use cursor::le8;
 use format::refusal;
 ghost use mathlib.Core.Path.{_≡_};
-ghost use mathlib.Core.Bool.{false};
-ghost use Prim.Native.Nat.{_+_, _≤_};
+ghost use Prim.Native.Nat.{_+_, _^_, _≤_, _<_};
+ghost use lib.Count.{trailingZeros};
 ghost use lib.ListN.{length, drop};
-ghost use Rattle.format.specs.Bytes.{leAt, part, same};
 ghost use Rattle.format.specs.Answer.{numberOf};
 ghost use Rattle.format.specs.Map.{throughMark, mapEntries, mostEntries};
-ghost use Rattle.chunk.specs.Answers.{givesOf, laterOf, lookupOf, findIn};
-ghost use Rattle.chunk.specs.Scan.{Clear, Skipped, foundOf, FoundIn, nextIn, Stands};
+ghost use Rattle.chunk.specs.Answers.{lookupOf, findIn};
+ghost use Rattle.chunk.specs.Scan.{Marked, firstThen, Skipped, foundOf, FoundIn, nextIn, Stands};
 
-// Whether '!' is among the 16 bytes from `at` on.
-fn marked16(s: &[u8], at: usize) -> bool
-    requires { ⌜ at + 16 ≤ length (now s) ⌝ }
-    ensures { λ r. ⌜ (r ≡ false → Clear (now (s .entry)) at (at + 16)) ⌝ }
+// A digit that is 1 where '!' stands at `at`.
+fn mark(s: &[u8], at: usize) -> u32
+    requires { ⌜ at + 1 ≤ length (now s) ⌝ }
+    ensures { λ r. ⌜ Marked (now (s .entry)) at 1 r ⌝ }
 {
-    let mut hit = false;
-    let mut j = 0;
-    while j < 16 {
-        hit = hit | (s[at + j] == b'!');
-        j += 1;
-    }
-    hit
+    if s[at] == b'!' { 1 } else { 0 }
 }
 
-// A place from `at` on that no '!' stands before, found by steps of 16.
+// The digits of two bytes, the first's lowest; then of four, of eight and of 16.
+fn marks2(s: &[u8], at: usize) -> u32
+    requires { ⌜ at + 2 ≤ length (now s) ⌝ }
+    ensures { λ r. ⌜ Marked (now (s .entry)) at 2 r ⌝ }
+{
+    mark(s, at) + 2 * mark(s, at + 1)
+}
+
+fn marks4(s: &[u8], at: usize) -> u32
+    requires { ⌜ at + 4 ≤ length (now s) ⌝ }
+    ensures { λ r. ⌜ Marked (now (s .entry)) at 4 r ⌝ }
+{
+    marks2(s, at) + 4 * marks2(s, at + 2)
+}
+
+fn marks8(s: &[u8], at: usize) -> u32
+    requires { ⌜ at + 8 ≤ length (now s) ⌝ }
+    ensures { λ r. ⌜ Marked (now (s .entry)) at 8 r ⌝ }
+{
+    marks4(s, at) + 16 * marks4(s, at + 4)
+}
+
+fn marks16(s: &[u8], at: usize) -> u32
+    requires { ⌜ at + 16 ≤ length (now s) ⌝ }
+    ensures { λ r. ⌜ Marked (now (s .entry)) at 16 r ⌝ }
+{
+    marks8(s, at) + 256 * marks8(s, at + 8)
+}
+
+// The place of the lowest digit of m that is 1, or 16.
+fn first16(m: u32) -> usize
+    requires { ⌜ m < 2 ^ 16 ⌝ }
+    ensures { λ r. ⌜ (r ≡ trailingZeros 16 m) × (r ≤ 16) ⌝ }
+{
+    u32::trailing_zeros(m + 65536) as usize
+}
+
+// The same, and where no digit of m is 1, a place behind those 16.
+fn then16(m: u32, behind: usize) -> usize
+    requires { ⌜ (m < 2 ^ 16) × (behind ≤ 32) ⌝ }
+    ensures { λ r. ⌜ (r ≡ firstThen m behind) × (r ≤ 16 + behind) ⌝ }
+{
+    if m == 0 { 16 + behind } else { first16(m) }
+}
+
+// A place from `at` on that no '!' stands before: where 48 bytes have one, the first's. No branch goes by the bytes.
 fn skip_clear(s: &[u8], at: usize) -> usize
     requires { ⌜ at ≤ length (now s) ⌝ }
     ensures { λ r. ⌜ Skipped (now (s .entry)) at r ⌝ }
 {
-    let mut i = at;
-    while 16 <= s.len() - i {
-        if marked16(s, i) {
-            return i;
-        }
-        i += 16;
+    if s.len() - at < 16 {
+        return at;
     }
-    i
+    let a = marks16(s, at);
+    if s.len() - at < 32 {
+        return at + first16(a);
+    }
+    let b = marks16(s, at + 16);
+    if s.len() - at < 48 {
+        return at + then16(a, first16(b));
+    }
+    let c = marks16(s, at + 32);
+    at + then16(a, then16(b, first16(c)))
 }
 
 // A number of bytes, or that there is no '!'.
@@ -58,7 +101,7 @@ pub fn through_mark(s: &[u8], at: usize) -> Found
         if s[i] == b'!' {
             return Found::Through(i - at + 1);
         }
-        i += 1;
+        i = skip_clear(s, i + 1);
     }
     Found::Nothing
 }
@@ -105,28 +148,6 @@ pub enum Lookup {
     Broken,
 }
 
-// What the entry at `at`, whose name has n bytes, gives for a name: its offset, where it bears it.
-fn offset_of(map: &[u8], at: usize, n: usize, name: &[u8]) -> Lookup
-    requires { ⌜ at + n + 16 ≤ length (now map) ⌝ }
-    ensures { λ r. ⌜ r ≡ givesOf (same (part (now (map .entry)) at n) (now (name .entry))) (leAt 8 (now (map .entry)) (at + n)) ⌝ }
-{
-    if is_at(map, at, n, name) {
-        return Lookup::At(le8(map, at + n));
-    }
-    Lookup::Absent
-}
-
-// The second of two answers, or the first where that is absent.
-fn later(first: Lookup, second: Lookup) -> Lookup
-    ensures { λ r. ⌜ r ≡ laterOf first second ⌝ }
-{
-    match second {
-        Lookup::At(o) => Lookup::At(o),
-        Lookup::Absent => first,
-        Lookup::Broken => Lookup::Broken,
-    }
-}
-
 // One pass over the map's data: its refusal, or the last entry of a name.
 pub fn look_up(map: &[u8], name: &[u8]) -> Lookup
     ensures { λ r. ⌜ lookupOf r ≡ findIn (now (map .entry)) (now (name .entry)) ⌝ }
@@ -137,7 +158,9 @@ pub fn look_up(map: &[u8], name: &[u8]) -> Lookup
     loop {
         match next_entry(map, at, entries) {
             Next::Named(n) => {
-                last = later(last, offset_of(map, at, n, name));
+                if is_at(map, at, n, name) {
+                    last = Lookup::At(le8(map, at + n));
+                }
                 at = at + n + 16;
                 entries += 1;
             }
@@ -167,9 +190,15 @@ pub fn look_three(map: &[u8], a: &[u8], b: &[u8], c: &[u8]) -> Three
     loop {
         match next_entry(map, at, entries) {
             Next::Named(n) => {
-                x = later(x, offset_of(map, at, n, a));
-                y = later(y, offset_of(map, at, n, b));
-                z = later(z, offset_of(map, at, n, c));
+                if is_at(map, at, n, a) {
+                    x = Lookup::At(le8(map, at + n));
+                }
+                if is_at(map, at, n, b) {
+                    y = Lookup::At(le8(map, at + n));
+                }
+                if is_at(map, at, n, c) {
+                    z = Lookup::At(le8(map, at + n));
+                }
                 at = at + n + 16;
                 entries += 1;
             }
@@ -189,9 +218,16 @@ pub fn look_three(map: &[u8], a: &[u8], b: &[u8], c: &[u8]) -> Three
 pub fn map_check(map: &[u8]) -> u32
     ensures { λ r. ⌜ r ≡ numberOf (mapEntries (now (map .entry))) ⌝ }
 {
-    match look_up(map, b"") {
-        Lookup::At(_) => 0,
-        Lookup::Absent => 0,
-        Lookup::Broken => refusal::MAP,
+    let mut at = 0;
+    let mut entries: u64 = 0;
+    loop {
+        match next_entry(map, at, entries) {
+            Next::Named(n) => {
+                at = at + n + 16;
+                entries += 1;
+            }
+            Next::End => return 0,
+            Next::Broken => return refusal::MAP,
+        }
     }
 }

@@ -1,10 +1,12 @@
 // Bytes compared with a name: the last first, since the names of a map differ at their ends.
+use cursor::le8;
 ghost use mathlib.Core.Path.{_≡_};
+ghost use mathlib.Core.Bool.{false};
 ghost use Prim.Native.Nat.{_+_, _≤_};
 ghost use lib.ListN.{length};
 ghost use Rattle.format.specs.Bytes.{part, same, begins};
 ghost use Rattle.format.specs.Map.{endMark};
-ghost use Rattle.chunk.specs.Alike.{Alike, Tells};
+ghost use Rattle.chunk.specs.Alike.{Alike, Foreign, Tells};
 
 // Whether the 16 bytes of e from i on stand in s as far from `at`.
 fn same16(s: &[u8], at: usize, e: &[u8], i: usize) -> bool
@@ -65,8 +67,23 @@ pub fn begins_at(s: &[u8], at: usize, n: usize, e: &[u8]) -> bool
     same_at(s, at, e)
 }
 
-// Whether the n bytes of s from `at` on are those of e.
-pub fn is_at(s: &[u8], at: usize, n: usize, e: &[u8]) -> bool
+// Whether e may stand in s from `at` on: there is room for it, and its last eight bytes stand there.
+fn may_be_at(s: &[u8], at: usize, e: &[u8]) -> bool
+    requires { ⌜ at ≤ length (now s) ⌝ }
+    ensures { λ r. ⌜ (r ≡ false → Foreign (now (s .entry)) at (now (e .entry))) ⌝ }
+{
+    if s.len() - at < e.len() {
+        return false;
+    }
+    if e.len() < 8 {
+        return true;
+    }
+    let i = e.len() - 8;
+    le8(s, at + i) == le8(e, i)
+}
+
+// Whether the n bytes of s from `at` on are those of e, compared as a whole.
+fn equals_at(s: &[u8], at: usize, n: usize, e: &[u8]) -> bool
     requires { ⌜ at + n ≤ length (now s) ⌝ }
     ensures { λ r. ⌜ r ≡ same (part (now (s .entry)) at n) (now (e .entry)) ⌝ }
 {
@@ -76,7 +93,26 @@ pub fn is_at(s: &[u8], at: usize, n: usize, e: &[u8]) -> bool
     same_at(s, at, e)
 }
 
-// Whether the n bytes of s from `at` on are the locator's mark, which is the end mark's name too.
+// Whether the n bytes of s from `at` on are those of e: first by what tells most names apart without n.
+pub fn is_at(s: &[u8], at: usize, n: usize, e: &[u8]) -> bool
+    requires { ⌜ at + n ≤ length (now s) ⌝ }
+    ensures { λ r. ⌜ r ≡ same (part (now (s .entry)) at n) (now (e .entry)) ⌝ }
+{
+    if !may_be_at(s, at, e) {
+        return false;
+    }
+    equals_at(s, at, n, e)
+}
+
+// Whether the locator's mark stands in s from `at` on, which is the end mark's name too.
+fn end_at(s: &[u8], at: usize) -> bool
+    requires { ⌜ at + 32 ≤ length (now s) ⌝ }
+    ensures { λ r. ⌜ r ≡ same (part (now (s .entry)) at 32) endMark ⌝ }
+{
+    same_at(s, at, b"ND2 CHUNK MAP SIGNATURE 0000001!")
+}
+
+// Whether the n bytes of s from `at` on are that mark.
 pub fn is_end(s: &[u8], at: usize, n: usize) -> bool
     requires { ⌜ at + n ≤ length (now s) ⌝ }
     ensures { λ r. ⌜ r ≡ same (part (now (s .entry)) at n) endMark ⌝ }
@@ -84,5 +120,5 @@ pub fn is_end(s: &[u8], at: usize, n: usize) -> bool
     if n != 32 {
         return false;
     }
-    same_at(s, at, b"ND2 CHUNK MAP SIGNATURE 0000001!")
+    end_at(s, at)
 }

@@ -1,11 +1,12 @@
 -- As a pass for one name, three times.
 use Prim.Native.Nat.{_-_}
+use mathlib.Core.Logic.{⊎-elim}
 use native.Mathlib.Omega.{arith}
 use borrow.Author.Needs.{needs}
 use denote.Ref.{now}
 use lib.ListN.{length}
 use Rattle.chunk.specs.Scan.{Entry}
-use Rattle.chunk.proofs.Scan.{Scanned, scan-start, scan-broken, scan-end, scan-on}
+use Rattle.chunk.proofs.Scan.{Scanned, scan-start, scan-broken, scan-end, scan-hit, scan-miss}
 use Rattle.chunk.proofs.map.look_three.Statement.{statement}
 use Rattle.chunk.proofs.map.look_three.Tie as tie
 
@@ -17,7 +18,7 @@ abbrev μ-loop : tie.MeasureT-loop
 
 -- what the entry that stands next is
 entry : (c : tie.After-n Inv-loop μ-loop)
-    → Entry (now (c .before .before .before .before .before .before .before .before .args .map)) (c .before .before .before .loop .at) (c .before .before .before .loop .entries) (c .n .given .0 .0)
+    → (let l = c .before .before .before in Entry (now (l .before .before .before .before .before .args .map)) (l .loop .at) (l .loop .entries) (c .n .given .0 .0))
 entry c = rw (c .n .given .1) at (c .before .before .next-entry .ensures .1)
 
 loop-holds : tie.Need-loop-holds Inv-loop μ-loop
@@ -29,23 +30,32 @@ next-entry-requires c κs = search needs
 enum-known-n : tie.Need-enum-known-n Inv-loop μ-loop
 enum-known-n c = search needs
 
-offset-of-requires : tie.Need-offset-of-requires Inv-loop μ-loop
-offset-of-requires c κs = entry (c .before) .inside
+is-at-requires : tie.Need-is-at-requires Inv-loop μ-loop
+is-at-requires c κs = omega (arith, (entry (c .before)) .inside)
 
-later-requires : tie.Need-later-requires Inv-loop μ-loop
-later-requires c κs = search needs
+add-le8 : tie.Need-add-le8 Inv-loop μ-loop
+add-le8 c = omega (arith, (entry (c .before .before .before)) .inside)
 
-offset-of-requires-2 : tie.Need-offset-of-requires-2 Inv-loop μ-loop
-offset-of-requires-2 c κs = entry (c .before .before .before) .inside
+le8-requires : tie.Need-le8-requires Inv-loop μ-loop
+le8-requires c κs = omega (arith, (entry (c .before .before .before)) .inside)
 
-later-requires-2 : tie.Need-later-requires-2 Inv-loop μ-loop
-later-requires-2 c κs = search needs
+is-at-requires-2 : tie.Need-is-at-requires-2 Inv-loop μ-loop
+is-at-requires-2 c κs = omega (arith, (entry (c .before .before .before)) .inside)
 
-offset-of-requires-3 : tie.Need-offset-of-requires-3 Inv-loop μ-loop
-offset-of-requires-3 c κs = entry (c .before .before .before .before .before) .inside
+add-le8-2 : tie.Need-add-le8-2 Inv-loop μ-loop
+add-le8-2 c = omega (arith, (entry (c .before .before .before .before .before)) .inside)
 
-later-requires-3 : tie.Need-later-requires-3 Inv-loop μ-loop
-later-requires-3 c κs = search needs
+le8-requires-2 : tie.Need-le8-requires-2 Inv-loop μ-loop
+le8-requires-2 c κs = omega (arith, (entry (c .before .before .before .before .before)) .inside)
+
+is-at-requires-3 : tie.Need-is-at-requires-3 Inv-loop μ-loop
+is-at-requires-3 c κs = omega (arith, (entry (c .before .before .before .before .before)) .inside)
+
+add-le8-3 : tie.Need-add-le8-3 Inv-loop μ-loop
+add-le8-3 c = omega (arith, (entry (c .before .before .before .before .before .before .before)) .inside)
+
+le8-requires-3 : tie.Need-le8-requires-3 Inv-loop μ-loop
+le8-requires-3 c κs = omega (arith, (entry (c .before .before .before .before .before .before .before)) .inside)
 
 add-at : tie.Need-add-at Inv-loop μ-loop
 add-at c = omega (arith, (entry (c .before .before .before .before .before .before .before)) .inside)
@@ -61,11 +71,23 @@ loop-less c = omega (arith, (entry (c .before .before .before .before .before .b
 
 loop-again : tie.Need-loop-again Inv-loop μ-loop
 loop-again c =
+    let h = c .before .before .before .before .before .before .before .before .before .before .loop .inv in
     let e = entry (c .before .before .before .before .before .before .before) in
-    let h = c .before .before .before .before .before .before .before .before .before .before .loop .inv in (
-      scan-on (h .0) e (c .before .before .before .before .later .ensures) (c .before .before .before .before .before .offset-of .ensures),
-      scan-on (h .1) e (c .before .before .later2 .ensures) (c .before .before .before .offset-of2 .ensures),
-      scan-on (h .2) e (c .later3 .ensures) (c .before .offset-of3 .ensures),
+    let s = c .before .before .before .before .before .is-at .ensures in
+    let t = c .before .before .before .is-at2 .ensures in
+    let u = c .before .is-at3 .ensures in (
+      ⊎-elim
+          (λ w. scan-hit (h .0) e s (w .0 .taken) (w .1 .ensures) (w .2))
+          (λ w. scan-miss (h .0) e s (w .0 .left) (w .1))
+          (c .before .before .before .before .if1 .came),
+      ⊎-elim
+          (λ w. scan-hit (h .1) e t (w .0 .taken) (w .1 .ensures) (w .2))
+          (λ w. scan-miss (h .1) e t (w .0 .left) (w .1))
+          (c .before .before .if2 .came),
+      ⊎-elim
+          (λ w. scan-hit (h .2) e u (w .0 .taken) (w .1 .ensures) (w .2))
+          (λ w. scan-miss (h .2) e u (w .0 .left) (w .1))
+          (c .if3 .came),
     )
 
 enum-told : tie.Need-enum-told Inv-loop μ-loop
@@ -95,12 +117,15 @@ look-three-spec =
     loop-holds
     next-entry-requires
     enum-known-n
-    offset-of-requires
-    later-requires
-    offset-of-requires-2
-    later-requires-2
-    offset-of-requires-3
-    later-requires-3
+    is-at-requires
+    add-le8
+    le8-requires
+    is-at-requires-2
+    add-le8-2
+    le8-requires-2
+    is-at-requires-3
+    add-le8-3
+    le8-requires-3
     add-at
     add-at-2
     add-entries

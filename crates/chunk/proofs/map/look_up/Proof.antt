@@ -1,11 +1,12 @@
 -- The entries passed have given the name `last`; the rest is what stands next.
 use Prim.Native.Nat.{_-_}
+use mathlib.Core.Logic.{⊎-elim}
 use native.Mathlib.Omega.{arith}
 use borrow.Author.Needs.{needs}
 use denote.Ref.{now}
 use lib.ListN.{length}
 use Rattle.chunk.specs.Scan.{Entry}
-use Rattle.chunk.proofs.Scan.{Scanned, scan-start, scan-broken, scan-end, scan-on}
+use Rattle.chunk.proofs.Scan.{Scanned, scan-start, scan-broken, scan-end, scan-hit, scan-miss}
 use Rattle.chunk.proofs.map.look_up.Statement.{statement}
 use Rattle.chunk.proofs.map.look_up.Tie as tie
 
@@ -17,7 +18,7 @@ abbrev μ-loop : tie.MeasureT-loop
 
 -- what the entry that stands next is
 entry : (c : tie.After-n Inv-loop μ-loop)
-    → Entry (now (c .before .before .before .before .before .before .args .map)) (c .before .before .before .loop .at) (c .before .before .before .loop .entries) (c .n .given .0 .0)
+    → (let l = c .before .before .before in Entry (now (l .before .before .before .args .map)) (l .loop .at) (l .loop .entries) (c .n .given .0 .0))
 entry c = rw (c .n .given .1) at (c .before .before .next-entry .ensures .1)
 
 loop-holds : tie.Need-loop-holds Inv-loop μ-loop
@@ -29,11 +30,14 @@ next-entry-requires c κs = search needs
 enum-known-n : tie.Need-enum-known-n Inv-loop μ-loop
 enum-known-n c = search needs
 
-offset-of-requires : tie.Need-offset-of-requires Inv-loop μ-loop
-offset-of-requires c κs = entry (c .before) .inside
+is-at-requires : tie.Need-is-at-requires Inv-loop μ-loop
+is-at-requires c κs = omega (arith, (entry (c .before)) .inside)
 
-later-requires : tie.Need-later-requires Inv-loop μ-loop
-later-requires c κs = search needs
+add-le8 : tie.Need-add-le8 Inv-loop μ-loop
+add-le8 c = omega (arith, (entry (c .before .before .before)) .inside)
+
+le8-requires : tie.Need-le8-requires Inv-loop μ-loop
+le8-requires c κs = omega (arith, (entry (c .before .before .before)) .inside)
 
 add-at : tie.Need-add-at Inv-loop μ-loop
 add-at c = omega (arith, (entry (c .before .before .before)) .inside)
@@ -48,7 +52,11 @@ loop-less : tie.Need-loop-less Inv-loop μ-loop
 loop-less c = omega (arith, (entry (c .before .before .before)) .inside)
 
 loop-again : tie.Need-loop-again Inv-loop μ-loop
-loop-again c = scan-on (c .before .before .before .before .before .before .loop .inv) (entry (c .before .before .before)) (c .later .ensures) (c .before .offset-of .ensures)
+loop-again c =
+    let h = c .before .before .before .before .before .before .loop .inv in
+    let e = entry (c .before .before .before) in
+    let s = c .before .is-at .ensures in
+    ⊎-elim (λ w. scan-hit h e s (w .0 .taken) (w .1 .ensures) (w .2)) (λ w. scan-miss h e s (w .0 .left) (w .1)) (c .if1 .came)
 
 enum-told : tie.Need-enum-told Inv-loop μ-loop
 enum-told c = search needs
@@ -71,8 +79,9 @@ look-up-spec =
     loop-holds
     next-entry-requires
     enum-known-n
-    offset-of-requires
-    later-requires
+    is-at-requires
+    add-le8
+    le8-requires
     add-at
     add-at-2
     add-entries

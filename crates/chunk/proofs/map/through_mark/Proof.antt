@@ -4,7 +4,7 @@ use native.Mathlib.Omega.{arith}
 use borrow.Author.Needs.{needs}
 use lib.ListN.{length}
 use Rattle.chunk.specs.Scan.{Skipped}
-use Rattle.chunk.proofs.Marks.{clear-more, marked, unmarked}
+use Rattle.chunk.proofs.Marks.{skipped-more, marked, unmarked}
 use Rattle.chunk.proofs.map.through_mark.Statement.{statement}
 use Rattle.chunk.proofs.map.through_mark.Tie as tie
 
@@ -32,16 +32,17 @@ add-t9 c = search needs
 returns : tie.Need-returns Inv-loop μ-loop
 returns c = (marked (c .before .before .before .loop .inv .clear) (search needs) (search needs) (c .if1 .taken), omega arith)
 
-add-i : tie.Need-add-i Inv-loop μ-loop
-add-i c = search needs
+add-skip-clear : tie.Need-add-skip-clear Inv-loop μ-loop
+add-skip-clear c = search needs
+
+skip-clear-requires-2 : tie.Need-skip-clear-requires-2 Inv-loop μ-loop
+skip-clear-requires-2 c κs = search needs
 
 loop-less : tie.Need-loop-less Inv-loop μ-loop
-loop-less c = search needs
+loop-less c = omega (arith, c .skip-clear2 .ensures .from)
 
 loop-again : tie.Need-loop-again Inv-loop μ-loop
-loop-again c =
-    let h = c .before .before .before .loop .inv in
-    record { from = omega arith; inside = omega arith; clear = clear-more (h .clear) (c .if1 .left) }
+loop-again c = skipped-more (c .before .before .before .before .loop .inv) (c .before .if1 .left) (c .skip-clear2 .ensures)
 
 returns-2 : tie.Need-returns-2 Inv-loop μ-loop
 returns-2 c = (unmarked (c .before .loop .inv .clear) (c .loop-test .left), tt)
@@ -58,7 +59,8 @@ through-mark-spec =
     sub-t8
     add-t9
     returns
-    add-i
+    add-skip-clear
+    skip-clear-requires-2
     loop-less
     loop-again
     returns-2)

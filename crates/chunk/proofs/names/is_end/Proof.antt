@@ -1,4 +1,4 @@
--- The byte string is the mark, of 32 bytes.
+-- Of another length, or compared.
 use mathlib.Core.Path.{sym}
 use Rattle.format.specs.Bytes.{ascii}
 use Rattle.format.specs.Map.{endMark}
@@ -11,15 +11,11 @@ returns : tie.Need-returns
 unfolding endMark ascii
 returns c = sym (part-other _ endMark _ _ (search needs) (c .if1 .taken))
 
-slice-aggregate-same-at : tie.Need-slice-aggregate-same-at
-slice-aggregate-same-at c = search needs
-
-same-at-requires : tie.Need-same-at-requires
-same-at-requires c κs = search needs
+end-at-requires : tie.Need-end-at-requires
+end-at-requires c κs = search needs
 
 returns-2 : tie.Need-returns-2
-unfolding endMark ascii
-returns-2 c = rw (c .before .before .if1 .left) (c .same-at .ensures)
+returns-2 c = rw (c .before .if1 .left) (c .end-at .ensures)
 
 pub is-end-spec : {M : Type 1} → statement M
-is-end-spec = tie.close (tie.spec returns slice-aggregate-same-at same-at-requires returns-2)
+is-end-spec = tie.close (tie.spec returns end-at-requires returns-2)
