@@ -104,12 +104,16 @@ pub fn is_at(s: &[u8], at: usize, n: usize, e: &[u8]) -> bool
     equals_at(s, at, n, e)
 }
 
-// Whether the locator's mark stands in s from `at` on, which is the end mark's name too.
+// Whether the locator's mark stands in s from `at` on, which is the end mark's name too: eight bytes at a time, as numbers.
 fn end_at(s: &[u8], at: usize) -> bool
     requires { ⌜ at + 32 ≤ length (now s) ⌝ }
     ensures { λ r. ⌜ r ≡ same (part (now (s .entry)) at 32) endMark ⌝ }
 {
-    same_at(s, at, b"ND2 CHUNK MAP SIGNATURE 0000001!")
+    let a = le8(s, at) == 0x4E55_4843_2032_444E; // ND2 CHUN
+    let b = le8(s, at + 8) == 0x4953_2050_414D_204B; // K MAP SI
+    let c = le8(s, at + 16) == 0x2045_5255_5441_4E47; // GNATURE, a space
+    let d = le8(s, at + 24) == 0x2131_3030_3030_3030; // 0000001!
+    a & b & c & d
 }
 
 // Whether the n bytes of s from `at` on are that mark.

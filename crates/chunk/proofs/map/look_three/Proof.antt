@@ -18,7 +18,8 @@ abbrev μ-loop : tie.MeasureT-loop
 
 -- what the entry that stands next is
 entry : (c : tie.After-n Inv-loop μ-loop)
-    → (let l = c .before .before .before in Entry (now (l .before .before .before .before .before .args .map)) (l .loop .at) (l .loop .entries) (c .n .given .0 .0))
+    → (let l = c .before .before .before in
+    Entry (now (l .before .before .before .before .before .args .map)) (l .loop .at) (l .loop .entries) (c .n .given .0 .0))
 entry c = rw (c .n .given .1) at (c .before .before .next-entry .ensures .1)
 
 loop-holds : tie.Need-loop-holds Inv-loop μ-loop
