@@ -1,5 +1,5 @@
 -- A number's decimal digits, read from the first on. Assumes nothing.
-use Prim.Native.Nat.{ℕ, _+_, _-_, _*_, _/_, _^_, _≤_, _<_}
+use Prim.Native.Nat.{ℕ, _+_, _-_, _*_, _^_, _≤_, _<_}
 use mathlib.Core.Path.{_≡_, refl, sym, ap, _∙_}
 use mathlib.Core.List.{List, [], _∷_, _++_, append-nil}
 use native.Mathlib.Omega.{arith}
@@ -90,7 +90,7 @@ module _ {s : List ℕ} {from to k i : ℕ} (h : Read s from to k i) where
         let e : part s from (i - from) ++ part s i 1 ≡ part s from (i - from + 1) = rw t at (part-join s from (i - from) 1) in
         rw (z, ← e, one s i (omega arith), x .is (omega arith)) (digits {n = k} {d = d} (omega arith) (h .spelled) (omega arith))
 
-    pub too-large : (2 ^ 64 - 1 - d) / 10 < k → Spells (part s from (to - from)) Other
+    pub too-large : 2 ^ 64 ≤ k * 10 + d → Spells (part s from (to - from)) Other
     unfolding number
     too-large big n small r =
         let a = h .started in
@@ -105,7 +105,7 @@ module _ {s : List ℕ} {from to k i : ℕ} (h : Read s from to k i) where
         let j : number (k * 10 + d) rest ≡ n = sym q ∙ (ap (number 0) e ∙ p) in
         omega arith
 
-    pub read-on : k ≤ (2 ^ 64 - 1 - d) / 10 → Read s from to (k * 10 + d) (i + 1)
+    pub read-on : k * 10 + d < 2 ^ 64 → Read s from to (k * 10 + d) (i + 1)
     read-on fits =
         let a = h .started in
         record { started = omega arith; within = omega arith; inside = h .inside; spelled = more; small = omega arith }

@@ -6,7 +6,7 @@ use mathlib.Core.List.{List, [], _∷_, _++_}
 use native.Mathlib.Omega.{arith}
 use lib.ListN.{length, getD, take, drop, length-append}
 use lib.Seq.{getD-append-add, take-at}
-use Rattle.format.specs.Bytes.{part, ascii, begins}
+use Rattle.format.specs.Bytes.{part, same, ascii, begins}
 use Rattle.format.specs.Frames.{frameName}
 use Rattle.format.specs.Grammar.Frames.{Decimal, FrameName}
 use Rattle.format.proofs.Bytes.{part-length, part-at, begins-part}
@@ -41,14 +41,14 @@ module _ (m : List ℕ) (at n : ℕ) (inside : at + n ≤ length m) where
       let d = some-digit (x .decimal) in
       omega arith
 
-  pub not-begun : begins prefix (part m at n) ≡ false → Names (part m at n) Other
-  unfolding begins
-  not-begun f k l e =
-      let x = ruled k (part m at n) l e in
-      let q : take 13 (part m at n) ≡ prefix = ap (take 13) (spelled x) in
-      true≢false (sym (true-same prefix (take 13 (part m at n)) (sym q)) ∙ f)
-
   module _ (long : 15 ≤ n) where
+    pub not-begun : same (part m at 13) prefix ≡ false → Names (part m at n) Other
+    unfolding begins
+    not-begun f k l e =
+        let x = ruled k (part m at n) l e in
+        let q : take 13 (part m at n) ≡ prefix = ap (take 13) (spelled x) in
+        true≢false (sym (true-same prefix (take 13 (part m at n)) (sym q)) ∙ (begins-part prefix m at n (omega arith) ∙ f))
+
     pub no-mark : (getD m (at + n - 1) 0 ≡ 33 → ⊥) → Names (part m at n) Other
     no-mark f k l e =
         let x = ruled k (part m at n) l e in
@@ -61,7 +61,7 @@ module _ (m : List ℕ) (at n : ℕ) (inside : at + n ≤ length m) where
         getD-append-add prefix (x .number ++ 33 ∷ []) (length (x .number) + 0) 0 ∙ getD-append-add (x .number) (33 ∷ []) 0 0 in
         f (rw b at (sym a) ∙ (ap (λ (w : List ℕ). getD w (n - 1) 0) (spelled x) ∙ rw z c))
 
-    module _ (begun : begins prefix (part m at n) ≡ true) (mark : getD m (at + n - 1) 0 ≡ 33) where
+    module _ (begun : same (part m at 13) prefix ≡ true) (mark : getD m (at + n - 1) 0 ≡ 33) where
       abbrev ds : List ℕ
       ds = part m (at + 13) (at + n - 1 - (at + 13))
 
@@ -71,7 +71,7 @@ module _ (m : List ℕ) (at n : ℕ) (inside : at + n ≤ length m) where
           let a : at + 13 + (at + n - 1 - (at + 13)) ≡ at + n - 1 = omega arith in
           let b : at + n - 1 - (at + 13) + 1 ≡ n - 13 = omega arith in
           let c : 13 + (n - 13) ≡ n = omega arith in
-          let p : part m at 13 ≡ prefix = same-true _ _ (sym (begins-part prefix m at n (omega arith)) ∙ begun) in
+          let p : part m at 13 ≡ prefix = same-true _ _ begun in
           let q : part m (at + n - 1) 1 ≡ 33 ∷ [] = rw mark at (one m (at + n - 1) (omega arith)) in
           let r : ds ++ 33 ∷ [] ≡ part m (at + 13) (n - 13) = rw (a, q, b) at (part-join m (at + 13) (at + n - 1 - (at + 13)) 1) in
           sym (rw (p, ← r, c) at (part-join m at 13 (n - 13)))

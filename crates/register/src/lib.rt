@@ -13,7 +13,8 @@ use naming::Framed;
 use naming::frame_number;
 use summary::bad_summary;
 use summary::frames;
-use summary::index_at;
+use wheel::turned;
+use wheel::wheel_of;
 ghost use mathlib.Core.Path.{_≡_};
 ghost use mathlib.Core.List.{List, [], _∷_, _++_};
 ghost use Prim.Native.Nat.{ℕ, _+_, _*_, _^_, _≤_, _<_};
@@ -22,16 +23,20 @@ ghost use lib.Seq.{sets};
 ghost use Rattle.format.specs.Bytes.{leBytes, over};
 ghost use Rattle.format.specs.Answer.{given, numberOf};
 ghost use Rattle.format.specs.Map.{MapEntry, mapEntries};
+ghost use Rattle.format.specs.Frames.{indexAt};
 ghost use Rattle.format.specs.Summary.{loopsOf};
 ghost use Rattle.format.specs.Calls.Register.{frameRecord, registerFrom, registered, registerCall};
 ghost use Rattle.format.specs.Grammar.Loops.{Counted};
 ghost use Rattle.format.specs.Refused.Order.{First};
 ghost use Rattle.format.specs.Refused.Register.{RegisterRefusal, registerOrder, Registered};
 ghost use Rattle.format.specs.Sentences.{Refuses, AcceptedUnless};
+ghost use Rattle.format.specs.declared.Axis.the-variants.{T, Z, P};
+ghost use Rattle.format.specs.declared.Loop.{Loop};
 ghost use Rattle.chunk.specs.Scan.{entryAt};
 ghost use Rattle.register.specs.Taking.{Taken};
 
 mod naming; // the frames that names are of
+mod wheel; // an axis's index, counted up
 
 // The number of a register that is accepted.
 const ACCEPTED: u32 = 0;
@@ -50,14 +55,15 @@ fn put_place(buffer: &mut [u8], at: usize, state: u64, offset: u64)
     put8(buffer, at + 4, offset);
 }
 
-// Stores the record of frame n, that the map has not.
-fn put_absent(buffer: &mut [u8], at: usize, u: Summary, n: u64)
-    requires { ⌜ Counted (loopsOf u) × (at + 24 ≤ length (now buffer)) ⌝ }
-    ensures { λ _. ⌜ ((m : List ℕ) → now (buffer .exit) ≡ sets (now (buffer .entry)) at (frameRecord m [] (loopsOf u) n)) ⌝ }
+// Stores the record of a frame at these indices, that the map has not.
+fn put_absent(buffer: &mut [u8], at: usize, scene: u64, t: u64, z: u64)
+    requires { ⌜ (at + 24 ≤ length (now buffer)) × (scene < 2 ^ 32) × (t < 2 ^ 32) × (z < 2 ^ 32) ⌝ }
+    ensures { λ _. ⌜ ((m : List ℕ) (ls : List Loop) (n : ℕ) → scene ≡ indexAt P n ls → t ≡ indexAt T n ls → z ≡ indexAt Z n ls
+        → now (buffer .exit) ≡ sets (now (buffer .entry)) at (frameRecord m [] ls n)) ⌝ }
 {
-    put4(buffer, at, index_at(u, Axis::P, n));
-    put4(buffer, at + 4, index_at(u, Axis::T, n));
-    put4(buffer, at + 8, index_at(u, Axis::Z, n));
+    put4(buffer, at, scene);
+    put4(buffer, at + 4, t);
+    put4(buffer, at + 8, z);
     put_place(buffer, at + 12, ABSENT, 0);
 }
 
@@ -66,10 +72,16 @@ fn put_frames(buffer: &mut [u8], u: Summary, count: u64)
     requires { ⌜ Counted (loopsOf u) × (24 * count ≤ length (now buffer)) ⌝ }
     ensures { λ _. ⌜ ((m : List ℕ) → now (buffer .exit) ≡ over (registerFrom count m [] (loopsOf u) 0) (now (buffer .entry))) ⌝ }
 {
+    let mut scene = wheel_of(u, Axis::P);
+    let mut t = wheel_of(u, Axis::T);
+    let mut z = wheel_of(u, Axis::Z);
     let mut n = 0;
     let mut at = 0;
     while n < count {
-        put_absent(buffer, at, u, n);
+        put_absent(buffer, at, scene.index, t.index, z.index);
+        scene = turned(scene);
+        t = turned(t);
+        z = turned(z);
         at += 24;
         n += 1;
     }

@@ -1,13 +1,16 @@
 // The frame that a name in the map is of.
-use chunk::names::begins_at;
 use cursor::wide;
+ghost use mathlib.Core.Path.{_≡_};
 ghost use Prim.Native.Nat.{_+_, _-_, _≤_, _<_};
 ghost use lib.ListN.{length};
-ghost use Rattle.format.specs.Bytes.{part};
+ghost use Rattle.format.specs.Bytes.{part, same, ascii};
+ghost use Rattle.chunk.specs.Alike.{Alike, Tells};
 ghost use Rattle.register.specs.Naming.{Digit, Spells, Names};
 
-// 2^64 − 1.
+// 2^64 − 1, and its tenth.
 const MOST: u64 = 18_446_744_073_709_551_615;
+
+const TENTH: u64 = 1_844_674_407_370_955_161;
 
 // What a name is: that of a frame, or any other.
 pub enum Framed {
@@ -46,13 +49,44 @@ fn number_at(s: &[u8], from: usize, to: usize) -> Framed
         if k == 0 {
             return Framed::Other;
         }
-        if (MOST - d) / 10 < k {
+        if TENTH < k {
             return Framed::Other;
         }
-        k = k * 10 + d;
+        let tens = k * 10;
+        if MOST - tens < d {
+            return Framed::Other;
+        }
+        k = tens + d;
         i += 1;
     }
     Framed::Number(k)
+}
+
+// Whether the 8 bytes of e from i on stand in s as far from `at`.
+fn same8(s: &[u8], at: usize, e: &[u8], i: usize) -> bool
+    requires { ⌜ (at + i + 8 ≤ length (now s)) × (i + 8 ≤ length (now e)) ⌝ }
+    ensures { λ r. ⌜ Tells r (Alike (now (s .entry)) at (now (e .entry)) i (i + 8)) ⌝ }
+{
+    let from = at + i;
+    let mut same = true;
+    let mut j = 0;
+    while j < 8 {
+        same = same & (s[from + j] == e[i + j]);
+        j += 1;
+    }
+    same
+}
+
+// Whether the 13 bytes with which every frame's name begins stand from `at` on: the last 8, then the first 8.
+fn begun(s: &[u8], at: usize) -> bool
+    requires { ⌜ at + 13 ≤ length (now s) ⌝ }
+    ensures { λ r. ⌜ r ≡ same (part (now (s .entry)) at 13) (ascii "ImageDataSeq|") ⌝ }
+{
+    let e = b"ImageDataSeq|";
+    if !same8(s, at, e, 5) {
+        return false;
+    }
+    same8(s, at, e, 0)
 }
 
 // The frame that the name of n bytes at `at` is of.
@@ -63,7 +97,7 @@ pub fn frame_number(map: &[u8], at: usize, n: usize) -> Framed
     if n < 15 {
         return Framed::Other;
     }
-    if !begins_at(map, at, n, b"ImageDataSeq|") {
+    if !begun(map, at) {
         return Framed::Other;
     }
     let last = at + n - 1;

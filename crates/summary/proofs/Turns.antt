@@ -1,9 +1,9 @@
 -- What one loop more makes of a run of loops: from the first on, and from the last back. Assumes nothing.
-use Prim.Native.Nat.{ℕ, zero, suc, _+_, _-_, _*_, _/_, _%_, _^_, _≤_, _<_}
+use Prim.Native.Nat.{ℕ, zero, suc, _+_, _-_, _*_, _/_, _^_, _≤_, _<_}
 use mathlib.Core.Path.{_≡_, refl, sym}
-use mathlib.Core.Bool.{true, false, cond, _||_}
+use mathlib.Core.Bool.{true, false, _||_}
 use mathlib.Core.List.{List, [], _∷_}
-use native.Mathlib.Nat.{mul-le-mul, pow-suc, pow-le-pow-right, suc-mul}
+use native.Mathlib.Nat.{mul-le-mul, pow-suc, pow-le-pow-right, suc-mul, mod-one}
 use native.Mathlib.Numerals.{add-one}
 use native.Mathlib.Omega.{arith}
 use lib.Dec.{eqb, ltb}
@@ -17,6 +17,8 @@ use Rattle.format.specs.Grammar.Loops.{Counted}
 use Rattle.format.specs.Grammar.Loops.{cons}
 use Rattle.format.specs.declared.Axis.{Axis}
 use Rattle.format.specs.declared.Loop.{Loop}
+use Rattle.summary.specs.Pacing.{Paced}
+use Rattle.summary.specs.declared.Pace.{Pace}
 
 -- where all have come, none is left
 pub past : (i : ℕ) (ls : List Loop) → length ls ≤ i → drop i ls ≡ []
@@ -60,10 +62,6 @@ module _ {xs ls : List Loop} {l : Loop} (e : xs ≡ l ∷ ls) where
     unfolding countOf
     count-on q = rw (e, q) refl
 
-    pub index-on : (n : ℕ) → indexAt a n xs ≡ cond (sameAxis (l .axis) a) (n / frames ls % l .count) (indexAt a n ls)
-    unfolding indexAt
-    index-on n = rw e refl
-
   pub counted-first : Counted xs → (0 < l .count) × (l .count ≤ mostCount) × Counted ls
   counted-first c = go (rw e at c)
     where
@@ -91,6 +89,20 @@ module _ {xs ls : List Loop} {l : Loop} (e : xs ≡ l ∷ ls) where
   pub frames-on : frames xs ≡ l .count * frames ls
   unfolding frames
   frames-on = rw e refl
+
+-- the pace of an axis: no loop has it, the first has it, or another one
+pub paced-none : (a : Axis) {p : Pace} → p .stay ≡ 1 → p .count ≡ 1 → Paced p a []
+unfolding indexAt
+paced-none a e f = record { stays = omega arith; some = omega arith; index = λ n. rw (e, f) (sym (mod-one (n / 1))) }
+
+module _ (a : Axis) (l : Loop) (ls : List Loop) where
+  pub paced-here : sameAxis (l .axis) a ≡ true → {p : Pace} → p .stay ≡ frames ls → p .count ≡ l .count → 0 < p .stay → 0 < p .count → Paced p a (l ∷ ls)
+  unfolding indexAt
+  paced-here q e f h k = record { stays = h; some = k; index = λ n. rw (q, e, f) refl }
+
+  pub paced-on : sameAxis (l .axis) a ≡ false → {p : Pace} → Paced p a ls → Paced p a (l ∷ ls)
+  unfolding indexAt
+  paced-on q p = record { stays = p .stays; some = p .some; index = λ n. rw q (p .index n) }
 
 -- one loop back: l is the loop before those from number i on
 module _ (i : ℕ) (ls : List Loop) {l : Loop} (some : 0 < i) (e : drop (i - 1) ls ≡ l ∷ drop (i - 1 + 1) ls) where

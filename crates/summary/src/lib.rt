@@ -9,17 +9,18 @@ use format::Range;
 use format::Summary;
 use format::axis_number;
 ghost use mathlib.Core.Path.{_≡_};
-ghost use mathlib.Core.Bool.{cond};
-ghost use mathlib.Core.List.{_∷_};
-ghost use Prim.Native.Nat.{_+_, _*_, _/_, _%_, _≤_, _<_};
+ghost use mathlib.Core.List.{List, _∷_};
+ghost use Prim.Native.Nat.{_+_, _≤_, _<_};
 ghost use lib.Dec.{ltb};
 ghost use lib.ListN.{length, drop};
 ghost use Rattle.format.specs.Loops.{sameAxis, hasAxis};
-ghost use Rattle.format.specs.Frames.{countOf, indexOf, seqIndex, frames as framesOf, indexAt};
+ghost use Rattle.format.specs.Frames.{countOf, indexOf, seqIndex, frames as framesOf};
 ghost use Rattle.format.specs.Summary.{shapeOf, loopsOf, badLoops, badSummary};
 ghost use Rattle.format.specs.Calls.Plane.{badIndex};
 ghost use Rattle.format.specs.Grammar.Loops.{Counted, Distinct};
 ghost use Rattle.format.specs.Refused.Plane.{Within};
+ghost use Rattle.format.specs.declared.Loop.{Loop};
+ghost use Rattle.summary.specs.Pacing.{Paced};
 
 // A loop has at most this many values.
 const MAX_LOOP_COUNT: u64 = 1_000_000;
@@ -186,31 +187,38 @@ pub fn frames(u: Summary) -> u64
     n
 }
 
-// The index of frame n on an axis, where the loop l has f frames in each turn: its own, or what the loops within it give.
-fn index_in(l: Loop, a: Axis, n: u64, f: u64, within: u64) -> u64
-    requires { ⌜ (0 < f) × (0 < l .count) ⌝ }
-    ensures { λ r. ⌜ r ≡ cond (sameAxis (l .axis) a) (n / f % l .count) within ⌝ }
-{
-    if runs_over(l, a) {
-        n / f % l.count
-    } else {
-        within
-    }
+// The pace of an axis: its index stays for so many frames, and has so many values.
+pub struct Pace {
+    pub stay: u64,
+    pub count: u64,
 }
 
-// The index of frame n on an axis: 0 where no loop has it.
-pub fn index_at(u: Summary, a: Axis, n: u64) -> u64
+// The pace of an axis, where the loop l has f frames in each turn: its own, or that of the loops within it.
+fn pace_in(l: Loop, a: Axis, f: u64, within: Pace) -> Pace
+    ensures { λ r. ⌜ ((ls : List Loop) → f ≡ framesOf ls → 0 < f → 0 < l .count → Paced within a ls → Paced r a (l ∷ ls)) ⌝ }
+{
+    if runs_over(l, a) {
+        return Pace {
+            stay: f,
+            count: l.count,
+        };
+    }
+    within
+}
+
+// The pace of an axis, by which frame n has the index n / stay % count: 1 and 1 where no loop has it.
+pub fn pace_of(u: Summary, a: Axis) -> Pace
     requires { ⌜ Counted (loopsOf u) ⌝ }
-    ensures { λ r. ⌜ r ≡ indexAt a n (loopsOf u) ⌝ }
+    ensures { λ r. ⌜ Paced r a (loopsOf u) ⌝ }
 {
     let mut i = used(u);
     let mut f = 1;
-    let mut index = 0;
+    let mut pace = Pace { stay: 1, count: 1 };
     while 0 < i {
         i -= 1;
         let l = loop_at(u, i);
-        index = index_in(l, a, n, f, index);
+        pace = pace_in(l, a, f, pace);
         f = l.count * f;
     }
-    index
+    pace
 }

@@ -53,17 +53,23 @@ returns-3 c =
     let t = c .before .before .before .before in
     zero-front (t .before .loop .inv) (c .if3 .taken) (t .loop-test .taken)
 
-sub-if4 : tie.Need-sub-if4 Inv-loop μ-loop
-sub-if4 c = search needs
-
 returns-4 : tie.Need-returns-4 Inv-loop μ-loop
 returns-4 c =
-    let e = c .before .before in
-    let t = e .before .before .before in
-    too-large (t .before .loop .inv) (t .loop-test .taken) _ (e .before .digit2 .ensures) (e .if2 .left) (c .before .if3 .left) (c .if4 .taken)
+    let e = c .before in
+    let t = e .before .before .before .before in
+    too-large (t .before .loop .inv) (t .loop-test .taken) _ (e .before .before .digit2 .ensures) (e .before .if2 .left) (e .if3 .left) (omega (arith, c .if4 .taken))
 
-mul-k : tie.Need-mul-k Inv-loop μ-loop
-mul-k c = search needs
+mul-tens : tie.Need-mul-tens Inv-loop μ-loop
+mul-tens c = search needs
+
+sub-if5 : tie.Need-sub-if5 Inv-loop μ-loop
+sub-if5 c = search needs
+
+returns-5 : tie.Need-returns-5 Inv-loop μ-loop
+returns-5 c =
+    let e = c .before .before in
+    let t = e .before .before .before .before in
+    too-large (t .before .loop .inv) (t .loop-test .taken) _ (e .before .before .digit2 .ensures) (e .before .if2 .left) (e .if3 .left) (omega (arith, c .if5 .taken))
 
 add-k : tie.Need-add-k Inv-loop μ-loop
 add-k c = search needs
@@ -77,11 +83,11 @@ loop-less c = search needs
 loop-again : tie.Need-loop-again Inv-loop μ-loop
 loop-again c =
     let e = c .before .before in
-    let t = e .before .before .before in
-    read-on (t .before .loop .inv) (t .loop-test .taken) _ (e .before .digit2 .ensures) (e .if2 .left) (c .before .if3 .left) (c .if4 .left)
+    let t = e .before .before .before .before in
+    read-on (t .before .loop .inv) (t .loop-test .taken) _ (e .before .before .digit2 .ensures) (e .before .if2 .left) (e .if3 .left) (omega (arith, c .if5 .left))
 
-returns-5 : tie.Need-returns-5 Inv-loop μ-loop
-returns-5 c = read-end (c .before .loop .inv) (c .loop-test .left)
+returns-6 : tie.Need-returns-6 Inv-loop μ-loop
+returns-6 c = read-end (c .before .loop .inv) (c .loop-test .left)
 
 pub number-at-spec : {M : Type 1} → statement M
 number-at-spec =
@@ -98,11 +104,12 @@ number-at-spec =
     digit-requires-2
     returns-2
     returns-3
-    sub-if4
     returns-4
-    mul-k
+    mul-tens
+    sub-if5
+    returns-5
     add-k
     add-i-2
     loop-less
     loop-again
-    returns-5)
+    returns-6)

@@ -1,30 +1,32 @@
--- `index_at`: the index among the inner loops, from the last one back, with the frames that they make.
+-- `pace_of`: the pace among the inner loops, from the last one back, with the frames that they make.
 use Prim.Native.Nat.{_-_, _*_, _^_, _≤_, _<_}
-use mathlib.Core.Path.{_≡_, refl, sym, _∙_}
+use mathlib.Core.Path.{_≡_, refl}
 use native.Mathlib.Nat.{mul-pos}
 use native.Mathlib.Omega.{arith}
 use lib.ListN.{length, drop}
 use Rattle.format.specs.Loops.{mostCount}
-use Rattle.format.specs.Frames.{frames, indexAt}
+use Rattle.format.specs.Frames.{frames}
 use Rattle.format.specs.Summary.{loopsOf}
-use Rattle.summary.proofs.Turns.{past, back, frames-back, count-some, index-on}
-use Rattle.summary.proofs.index_at.Statement.{statement}
-use Rattle.summary.proofs.index_at.Tie as tie
+use Rattle.summary.specs.Pacing.{Paced}
+use Rattle.summary.proofs.Turns.{past, back, frames-back, count-some, paced-none}
+use Rattle.summary.proofs.pace_of.Statement.{statement}
+use Rattle.summary.proofs.pace_of.Tie as tie
 
 abbrev Inv-loop : tie.InvT-loop
-Inv-loop u a n i₀ f₀ index₀ i f index =
-    (i ≤ length (loopsOf u)) × (length (loopsOf u) ≤ 3) × (f ≡ frames (drop i (loopsOf u))) × (0 < f) × (index ≡ indexAt a n (drop i (loopsOf u)))
+Inv-loop u a i₀ f₀ pace₀ i f pace =
+    (i ≤ length (loopsOf u)) × (length (loopsOf u) ≤ 3) × (f ≡ frames (drop i (loopsOf u))) × (0 < f) × Paced pace a (drop i (loopsOf u))
 
 abbrev μ-loop : tie.MeasureT-loop
-μ-loop u a n i₀ f₀ index₀ i f index = i
+μ-loop u a i₀ f₀ pace₀ i f pace = i
 
 used-requires : tie.Need-used-requires Inv-loop μ-loop
 used-requires c κs = tt
 
 loop-holds : tie.Need-loop-holds Inv-loop μ-loop
-unfolding frames indexAt
+unfolding frames
 loop-holds c =
-    let e = past (c .used .result) (loopsOf (c .before .args .u)) (omega arith) in (omega arith, omega arith, rw e refl, omega arith, rw e refl)
+    let a = c .before .args in
+    let e = past (c .used .result) (loopsOf (a .u)) (omega arith) in (omega arith, omega arith, rw e refl, omega arith, rw e (paced-none (a .a) refl refl))
 
 sub-i : tie.Need-sub-i Inv-loop μ-loop
 sub-i c = omega arith
@@ -46,8 +48,8 @@ module _ (c : tie.After-loop-at Inv-loop μ-loop) where
       let t = c .before .before in
       frames-back (t .loop .i) (loopsOf (t .before .before .args .u)) (c .before .loop-test .taken) (c .loop-at .ensures) (t .before .before .pre) (t .loop .inv .1) (t .loop .inv .2)
 
-index-in-requires : tie.Need-index-in-requires Inv-loop μ-loop
-index-in-requires c κs = (c .before .before .loop .inv .3, some c)
+pace-in-requires : tie.Need-pace-in-requires Inv-loop μ-loop
+pace-in-requires c κs = tt
 
 mul-f : tie.Need-mul-f Inv-loop μ-loop
 mul-f c = omega (arith, turn (c .before .before))
@@ -64,7 +66,7 @@ loop-again c =
       t .loop .inv .1,
       turn k .0,
       mul-pos (some k) (t .loop .inv .3),
-      c .before .index-in .ensures ∙ rw (t .loop .inv .2, t .loop .inv .4) (sym (index-on e _ _)),
+      rw e (c .before .pace-in .ensures _ (t .loop .inv .2) (t .loop .inv .3) (some k) (t .loop .inv .4)),
     )
 
 returns : tie.Need-returns Inv-loop μ-loop
@@ -73,5 +75,5 @@ returns c =
     let e : l .i ≡ 0 = omega arith in
     rw e at (l .inv .4)
 
-pub index-at-spec : {M : Type 1} → statement M
-index-at-spec = tie.close (tie.spec Inv-loop μ-loop used-requires loop-holds sub-i loop-at-requires index-in-requires mul-f loop-less loop-again returns)
+pub pace-of-spec : {M : Type 1} → statement M
+pace-of-spec = tie.close (tie.spec Inv-loop μ-loop used-requires loop-holds sub-i loop-at-requires pace-in-requires mul-f loop-less loop-again returns)
