@@ -1,6 +1,6 @@
 -- A wheel at frame 0, one frame on, and the index that it shows. Assumes nothing.
 use Prim.Native.Nat.{ℕ, _+_, _*_, _/_, _%_, _^_, _≤_, _<_}
-use mathlib.Core.Path.{_≡_, refl, sym, ap, _∙_}
+use mathlib.Core.Path.{_≡_, sym, ap, _∙_}
 use mathlib.Core.List.{List}
 use native.Mathlib.Nat.{add-zero, mul-add-div-right, mul-add-mod-self-right, mod-eq-of-lt, div-eq-of-lt}
 use native.Mathlib.Omega.{arith}
@@ -12,7 +12,7 @@ use Rattle.format.specs.declared.Loop.{Loop}
 use Rattle.format.proofs.Triples.{index-most}
 use Rattle.summary.specs.Pacing.{Paced}
 use Rattle.summary.specs.declared.Pace.{Pace}
-use Rattle.register.specs.Turning.{pace, Shows}
+use Rattle.register.specs.Turning.{Shows}
 use Rattle.register.specs.declared.wheel.Wheel.{Wheel}
 
 -- the quotient of a sum, and what is left of it
@@ -32,12 +32,12 @@ module _ {w : Wheel} {a : Axis} {ls : List Loop} {n : ℕ} (h : Shows w a ls n) 
 
   module _ (full : w .stay ≤ w .stood + 1) where
     -- the frames of the present index are over
-    over : n + 1 ≡ (h .rounds * w .count + (w .index + 1)) * w .stay
-    over = let e = h .number in let k = h .short in omega arith
+    used-up : n + 1 ≡ (h .rounds * w .count + (w .index + 1)) * w .stay
+    used-up = let e = h .number in let k = h .short in omega arith
 
     pub next-index : w .index + 1 < w .count → Shows (record { stay = w .stay; count = w .count; index = w .index + 1; stood = 0 }) a ls (n + 1)
     next-index l =
-        record { paced = h .paced; short = omega (arith, h .short); low = l; rounds = h .rounds; number = over ∙ sym (add-zero _) }
+        record { paced = h .paced; short = omega (arith, h .short); low = l; rounds = h .rounds; number = used-up ∙ sym (add-zero _) }
 
     pub first-again : w .count ≤ w .index + 1 → Shows (record { stay = w .stay; count = w .count; index = 0; stood = 0 }) a ls (n + 1)
     first-again l =
@@ -47,7 +47,7 @@ module _ {w : Wheel} {a : Axis} {ls : List Loop} {n : ℕ} (h : Shows w a ls n) 
           short = omega (arith, h .short);
           low = omega (arith, h .low);
           rounds = h .rounds + 1;
-          number = over ∙ (ap (λ (x : ℕ). x * w .stay) e ∙ sym (add-zero _));
+          number = used-up ∙ (ap (λ (x : ℕ). x * w .stay) e ∙ sym (add-zero _));
         }
 
 pub wheel-start : {p : Pace} {a : Axis} {ls : List Loop} → Paced p a ls → Shows (record { stay = p .stay; count = p .count; index = 0; stood = 0 }) a ls 0

@@ -18,17 +18,11 @@ pub enum Framed {
     Other,
 }
 
-// The number that a decimal digit stands for; 10 where the byte is none.
+// The number that a decimal digit stands for; 10 or more where the byte is none. 208 is 256 − 48.
 fn digit(b: u8) -> u64
     ensures { λ r. ⌜ Digit b r ⌝ }
 {
-    if b < b'0' {
-        return 10;
-    }
-    if b'9' < b {
-        return 10;
-    }
-    wide(b) - 48
+    (wide(b) + 208) % 256
 }
 
 // The number whose decimal digits, with no zero in front, stand from `from` up to `to`.

@@ -37,24 +37,28 @@ loop-holds c = (omega arith, omega arith, refl, λ ls s. (s, λ m. refl))
 
 -- in a turn: the wheels of the loops, and the records before
 module _ (c : tie.At-loop Inv-loop μ-loop) where
+  abbrev start : tie.Start Inv-loop μ-loop
+  start = c .before .before .before .before .before
+
   abbrev loops : List Loop
-  loops = loopsOf (c .before .before .before .before .before .args .u)
+  loops = loopsOf (start .args .u)
 
   so-far : let l = c .loop in
-      let b = now (c .before .before .before .before .before .args .buffer) in Stand (l .scene) (l .t) (l .z) loops (l .n) × ((m : List ℕ) → l .buffer ≡ over (registerFrom (l .n) m [] loops 0) b)
+      Stand (l .scene) (l .t) (l .z) loops (l .n) × ((m : List ℕ) → l .buffer ≡ over (registerFrom (l .n) m [] loops 0) (now (start .args .buffer)))
   so-far =
       let third = c .before in
-      c .loop .inv .3 loops (record { on-p = third .before .before .wheel-of .ensures; on-t = third .before .wheel-of2 .ensures; on-z = third .wheel-of3 .ensures })
+      let second = third .before in
+      c .loop .inv .3 loops (record { on-p = second .before .wheel-of .ensures; on-t = second .wheel-of2 .ensures; on-z = third .wheel-of3 .ensures })
 
 -- the next record fits
 room : (c : tie.In-loop Inv-loop μ-loop) → let l = c .before .loop in
-    let b = now (c .before .before .before .before .before .before .args .buffer) in (24 * l .n + 24 ≤ length b) × (l .at + 24 < 2 ^ 64) × (l .n + 1 < 2 ^ 64)
+    (24 * l .n + 24 ≤ length (now (start (c .before) .args .buffer))) × (l .at + 24 < 2 ^ 64) × (l .n + 1 < 2 ^ 64)
 room c = (omega arith, omega arith, omega arith)
 
 put-absent-requires : tie.Need-put-absent-requires Inv-loop μ-loop
 put-absent-requires c κs =
     let k = c .before .before in
-    let counted = k .before .before .before .before .before .pre .0 in
+    let counted = start k .pre .0 in
     let s = so-far k .0 in
     (omega arith, shown-fits counted (s .on-p), shown-fits counted (s .on-t), shown-fits counted (s .on-z))
 
@@ -88,7 +92,8 @@ loop-again c =
       p .put-absent .kept .0 ∙ l .inv .2,
       λ ls o. let (s, f) = l .inv .3 ls o in (
         record { on-p = first .turned .ensures _ _ _ (s .on-p); on-t = second .turned2 .ensures _ _ _ (s .on-t); on-z = c .turned3 .ensures _ _ _ (s .on-z) },
-        λ m. record-more m ls (l .n) _ (l .buffer) _ (l .at) (l .inv .1) (room (p .before .before) .0) (f m) (p .put-absent .ensures m ls (l .n) (shown (s .on-p)) (shown (s .on-t)) (shown (s .on-z))),
+        λ m. record-more m ls (l .n) _ (l .buffer) _ (l .at) (l .inv .1) (room (p .before .before) .0) (f m)
+            (p .put-absent .ensures m ls (l .n) (shown (s .on-p)) (shown (s .on-t)) (shown (s .on-z))),
       ),
     )
 
@@ -98,7 +103,7 @@ same-length c = c .before .loop .inv .2
 returns : tie.Need-returns Inv-loop μ-loop
 returns c m =
     let k = c .before in
-    let a = k .before .before .before .before .before .args in
+    let a = start k .args in
     let e : k .loop .n ≡ a .count = omega arith in
     so-far k .1 m ∙ ap (λ (n : ℕ). over (registerFrom n m [] (loops k) 0) (now (a .buffer))) e
 

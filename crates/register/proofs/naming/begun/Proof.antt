@@ -19,7 +19,9 @@ same8-requires-2 c κs = search needs
 
 returns-2 : tie.Need-returns-2
 unfolding ascii
-returns-2 c = told (search needs) (tells-join (c .same82 .ensures) (c .before .before .before .same8 .ensures .yes (not-false _ (c .before .before .if1 .left))) (omega arith) (omega arith))
+returns-2 c =
+    let e = c .before .before in
+    told (search needs) (tells-join (c .same82 .ensures) (e .before .same8 .ensures .yes (not-false _ (e .if1 .left))) (omega arith) (omega arith))
 
 pub begun-spec : {M : Type 1} → statement M
 begun-spec = tie.close (tie.spec same8-requires returns same8-requires-2 returns-2)

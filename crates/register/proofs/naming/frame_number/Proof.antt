@@ -54,7 +54,8 @@ returns-4 c =
     let e = t .before .before in
     let s = e .before .before in
     let a = s .args in
-    spelled-name (now (a .map)) (a .at) (a .n) (s .pre) (e .if1 .left) (sym (t .before .begun .ensures) ∙ not-false _ (t .if2 .left)) (c .before .if3 .left) (c .number-at .result) (c .number-at .ensures)
+    spelled-name (now (a .map)) (a .at) (a .n) (s .pre) (e .if1 .left) (sym (t .before .begun .ensures) ∙ not-false _ (t .if2 .left))
+    (c .before .if3 .left) (c .number-at .result) (c .number-at .ensures)
 
 pub frame-number-spec : {M : Type 1} → statement M
 frame-number-spec =

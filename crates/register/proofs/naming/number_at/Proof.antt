@@ -46,7 +46,8 @@ returns-2 c =
     let l = t .before .loop in
     let s = t .before .before .before .before .before .before in
     let a = s .args in
-    no-digit (now (a .s)) (a .from) (a .to) (s .pre .1) (l .i) _ (omega (arith, l .inv .started)) (t .loop-test .taken) (c .before .digit2 .ensures) (c .if2 .taken)
+    no-digit (now (a .s)) (a .from) (a .to) (s .pre .1) (l .i) _ (omega (arith, l .inv .started)) (t .loop-test .taken)
+    (c .before .digit2 .ensures) (c .if2 .taken)
 
 returns-3 : tie.Need-returns-3 Inv-loop μ-loop
 returns-3 c =
@@ -56,8 +57,9 @@ returns-3 c =
 returns-4 : tie.Need-returns-4 Inv-loop μ-loop
 returns-4 c =
     let e = c .before in
-    let t = e .before .before .before .before in
-    too-large (t .before .loop .inv) (t .loop-test .taken) _ (e .before .before .digit2 .ensures) (e .before .if2 .left) (e .if3 .left) (omega (arith, c .if4 .taken))
+    let d = e .before .before in
+    let t = d .before .before in
+    too-large (t .before .loop .inv) (t .loop-test .taken) _ (d .digit2 .ensures) (e .before .if2 .left) (e .if3 .left) (omega (arith, c .if4 .taken))
 
 mul-tens : tie.Need-mul-tens Inv-loop μ-loop
 mul-tens c = search needs
@@ -68,8 +70,9 @@ sub-if5 c = search needs
 returns-5 : tie.Need-returns-5 Inv-loop μ-loop
 returns-5 c =
     let e = c .before .before in
-    let t = e .before .before .before .before in
-    too-large (t .before .loop .inv) (t .loop-test .taken) _ (e .before .before .digit2 .ensures) (e .before .if2 .left) (e .if3 .left) (omega (arith, c .if5 .taken))
+    let d = e .before .before in
+    let t = d .before .before in
+    too-large (t .before .loop .inv) (t .loop-test .taken) _ (d .digit2 .ensures) (e .before .if2 .left) (e .if3 .left) (omega (arith, c .if5 .taken))
 
 add-k : tie.Need-add-k Inv-loop μ-loop
 add-k c = search needs
@@ -83,8 +86,9 @@ loop-less c = search needs
 loop-again : tie.Need-loop-again Inv-loop μ-loop
 loop-again c =
     let e = c .before .before in
-    let t = e .before .before .before .before in
-    read-on (t .before .loop .inv) (t .loop-test .taken) _ (e .before .before .digit2 .ensures) (e .before .if2 .left) (e .if3 .left) (omega (arith, c .if5 .left))
+    let d = e .before .before in
+    let t = d .before .before in
+    read-on (t .before .loop .inv) (t .loop-test .taken) _ (d .digit2 .ensures) (e .before .if2 .left) (e .if3 .left) (omega (arith, c .if5 .left))
 
 returns-6 : tie.Need-returns-6 Inv-loop μ-loop
 returns-6 c = read-end (c .before .loop .inv) (c .loop-test .left)
