@@ -8,8 +8,8 @@ use crate::summary::Summary;
 use crate::tree::Tree;
 use std::fmt;
 
-/// The entries of the first table that is lent; it doubles while it is too short.
-const FIRST_ENTRIES: usize = 256;
+/// The bytes of the first table that is lent, 256 entries; it doubles while it is too short.
+const FIRST_BYTES: usize = 256 * ENTRY_BYTES;
 
 /// An opened file. It borrows the file's bytes, which may be mapped from a disk ([`File`](crate::File)) or stand
 /// anywhere in memory, and may be used from several threads.
@@ -39,13 +39,12 @@ impl<'a> Reader<'a> {
     /// ```
     pub fn open(file: &'a [u8]) -> Result<Reader<'a>, Refusal> {
         let mut laid = [0; SUMMARY_BYTES];
-        let first = FIRST_ENTRIES * ENTRY_BYTES;
-        let table = with_table(file, first, |table| raw::open(file, table, &mut laid))?;
+        let room = with_room(file, FIRST_BYTES, |table| raw::open(file, table, &mut laid))?;
         Ok(Reader {
             file,
             laid,
             summary: Summary::read(&laid),
-            room: table.len(),
+            room,
         })
     }
 
@@ -174,7 +173,7 @@ impl<'a> Reader<'a> {
     pub fn channels(&self) -> Result<Vec<Channel>, Refusal> {
         let bytes = records(self.summary.components, CHANNEL_BYTES);
         let mut row = bytes.and_then(zeroed).ok_or(Refusal::CHANNEL_ROW)?;
-        with_table(self.file, self.room, |table| {
+        with_room(self.file, self.room, |table| {
             raw::channels(self.file, &self.laid, table, &mut row)
         })?;
         Ok(Channel::read_all(self.file, &row))
@@ -199,7 +198,7 @@ impl<'a> Reader<'a> {
     /// ```
     pub fn picometres(&self) -> Result<u64, Refusal> {
         let mut picometres = 0;
-        with_table(self.file, self.room, |table| {
+        with_room(self.file, self.room, |table| {
             raw::picometres(self.file, &self.laid, table, &mut picometres)
         })?;
         Ok(picometres)
@@ -278,14 +277,38 @@ pub(crate) fn zeroed(len: usize) -> Option<Vec<u8>> {
     Some(bytes)
 }
 
-/// Calls with a table of at least `first` bytes, and with twice as many while it is too short and more can be of use: two
-/// bytes of a tree make at most one entry.
+/// The bytes of the largest table that can be of use: two bytes of a tree make at most one entry.
+fn most_bytes(file: &[u8]) -> usize {
+    (file.len() / 2).saturating_mul(ENTRY_BYTES)
+}
+
+/// Calls as [`with_table`] does, but with a first table on the stack where that has room for it; the bytes of a table that was
+/// enough.
+fn with_room(
+    file: &[u8],
+    first: usize,
+    mut call: impl FnMut(&mut [u8]) -> u32,
+) -> Result<usize, Refusal> {
+    let most = most_bytes(file);
+    let len = first.min(most);
+    let longer = match len <= FIRST_BYTES {
+        false => len,
+        true => match Refusal::of_call(call(&mut [0; FIRST_BYTES][..len])) {
+            Ok(()) => return Ok(len),
+            Err(Refusal::TABLE) if len < most => len.saturating_mul(2),
+            Err(refusal) => return Err(refusal),
+        },
+    };
+    with_table(file, longer, call).map(|table| table.len())
+}
+
+/// Calls with a table of at least `first` bytes, and with twice as many while it is too short and more can be of use.
 fn with_table(
     file: &[u8],
     first: usize,
     mut call: impl FnMut(&mut [u8]) -> u32,
 ) -> Result<Vec<u8>, Refusal> {
-    let most = (file.len() / 2).saturating_mul(ENTRY_BYTES);
+    let most = most_bytes(file);
     let mut len = first.min(most);
     loop {
         let mut table = zeroed(len).ok_or(Refusal::TABLE)?;
@@ -317,6 +340,44 @@ mod tests {
     fn a_file_of_one_byte_gets_a_table_of_none() {
         let table = with_table(&[0], 480, |table| table.len() as u32);
         assert_eq!(table, Ok(Vec::new()));
+    }
+
+    #[test]
+    fn a_first_table_on_the_stack_is_followed_by_the_same_ones() {
+        for (first, file) in [(480, vec![0; 100]), (FIRST_BYTES, vec![0; 4000])] {
+            let mut lent = [Vec::new(), Vec::new()];
+            let refused = with_room(&file, first, |table| {
+                assert!(table.iter().all(|&byte| byte == 0));
+                lent[0].push(table.len());
+                Refusal::TABLE.number()
+            });
+            assert_eq!(refused, Err(Refusal::TABLE));
+            let _ = with_table(&file, first, |table| {
+                lent[1].push(table.len());
+                Refusal::TABLE.number()
+            });
+            assert_eq!(lent[0], lent[1]);
+        }
+    }
+
+    #[test]
+    fn the_bytes_of_the_table_that_was_enough_are_told() {
+        let file = vec![0; 4000];
+        let enough = |least| {
+            move |table: &mut [u8]| match table.len() < least {
+                true => Refusal::TABLE.number(),
+                false => 0,
+            }
+        };
+        assert_eq!(with_room(&file, FIRST_BYTES, enough(1)), Ok(FIRST_BYTES));
+        assert_eq!(
+            with_room(&file, FIRST_BYTES, enough(FIRST_BYTES + 1)),
+            Ok(2 * FIRST_BYTES)
+        );
+        // no table on the stack is as long
+        let longer = 2 * FIRST_BYTES;
+        assert_eq!(with_room(&file, longer, enough(1)), Ok(longer));
+        assert_eq!(with_room(&[0], FIRST_BYTES, enough(0)), Ok(0));
     }
 
     #[test]
