@@ -3,14 +3,19 @@
 use sample::file::MapEntry;
 use sample::parts::{self, Plane, Sizes};
 use sample::tree::{level, u32, Record};
-use sample::Nd2;
+use sample::{Nd2, Rng};
 
 /// The trees that every file needs.
 fn needed(sizes: Sizes, loops: &[(u32, Vec<Record>)]) -> Nd2 {
-    with_experiment(sizes, parts::experiment(loops))
+    with_experiment(sizes, &parts::experiment(loops))
 }
 
-fn with_experiment(sizes: Sizes, experiment: Record) -> Nd2 {
+/// A file of few samples, its experiment given.
+pub fn small(experiment: &Record) -> Vec<u8> {
+    with_experiment(Sizes::packed(4, 4, 1, 16), experiment).finish()
+}
+
+fn with_experiment(sizes: Sizes, experiment: &Record) -> Nd2 {
     let mut file = Nd2::new();
     file.add(parts::ATTRIBUTES, &parts::attributes(sizes).encode());
     file.add(parts::EXPERIMENT, &experiment.encode());
@@ -29,34 +34,74 @@ pub fn one_frame(sizes: Sizes) -> Vec<u8> {
     file.finish()
 }
 
-/// A file whose map has so many entries: 2 points, and for each of them half of all frames, which share one chunk. It bears
-/// the name of the last of them.
-pub fn large_map(entries: usize) -> Vec<u8> {
-    let times = (entries - 2) / 2;
+/// What the entries of a large map are called.
+#[derive(Clone, Copy, PartialEq, Eq)]
+pub enum MapNames {
+    /// As the frames that the loops make.
+    Frames,
+    /// As frames that the loops do not make, all of one length.
+    OneLength,
+    /// 6 to 40 bytes by chance, and unlike frames.
+    Mixed,
+}
+
+/// A file whose map has so many entries. Its frames are 2 points at one time, or at as many as there are entries for; they
+/// are the last entries, and share one chunk, which bears the name of the last of them.
+pub fn large_map(entries: usize, names: MapNames) -> Vec<u8> {
+    let times = match names {
+        MapNames::Frames => (entries - 2) / 2,
+        _ => 1,
+    };
     let loops = [
         (parts::POINTS, parts::counted(2)),
         (parts::TIME, parts::counted(times as u32)),
     ];
     let mut file = needed(Sizes::packed(4, 4, 1, 16), &loops);
+    let others = match names {
+        MapNames::Frames => 0,
+        _ => entries - 4,
+    };
+    file.entries.extend(other_entries(others, names));
     let offset = file.bytes.len() as u64;
     let frames = 2 * times as u64;
     let last = parts::frame_name(frames - 1);
     file.chunk(last.as_bytes(), &parts::frame(&[7; 32]));
-    for n in 0..frames {
-        file.entries.push(MapEntry {
-            name: parts::frame_name(n).into_bytes(),
-            offset,
-            size: 40,
-        });
-    }
+    file.entries.extend((0..frames).map(|n| MapEntry {
+        name: parts::frame_name(n).into_bytes(),
+        offset,
+        size: 40,
+    }));
     file.finish()
+}
+
+/// Entries that nothing is looked up in, as if each chunk stood behind the one before.
+fn other_entries(count: usize, names: MapNames) -> impl Iterator<Item = MapEntry> {
+    let mut rng = Rng::new(1);
+    (0..count as u64).map(move |i| MapEntry {
+        name: match names {
+            MapNames::Mixed => mixed_name(&mut rng),
+            _ => parts::frame_name(1_000_000 + i).into_bytes(),
+        },
+        offset: 4096 * (i + 1),
+        size: 4000,
+    })
+}
+
+/// A name that begins with a small letter, so that no chunk that is looked up has it.
+fn mixed_name(rng: &mut Rng) -> Vec<u8> {
+    let len = rng.between(6, 40);
+    let mut name = vec![rng.between(b'a'.into(), b'z'.into()) as u8];
+    let inner = (2..len).map(|_| rng.between(b'"'.into(), b'~'.into()) as u8);
+    name.extend(inner);
+    name.push(b'!');
+    name
 }
 
 /// The chunk of `deep`.
 pub const DEEP: &str = "Deep!";
 
 /// So many levels, one in another.
-fn levels(count: usize) -> Record {
+pub fn levels(count: usize) -> Record {
     (0..count).fold(u32("", 1), |record, _| level("", vec![record]))
 }
 
@@ -89,9 +134,14 @@ const OWN: u16 = 0x100;
 /// With no more names than these, all of those units are below the surrogates.
 pub const MOST_NAMES: u32 = 50_000;
 
+/// A unit that no other name has in its place.
+pub fn own_unit(i: usize) -> u16 {
+    OWN + i as u16
+}
+
 /// The units of name number i, and their zero.
-fn name_of(i: usize, units: Units) -> Vec<u16> {
-    let own = OWN + i as u16;
+pub fn name_of(i: usize, units: Units) -> Vec<u16> {
+    let own = own_unit(i);
     match units {
         Units::First => [&[own], &[0x61; 7][..], &[0]].concat(),
         Units::Last => [&[0x61; 7][..], &[own, 0]].concat(),
@@ -99,18 +149,32 @@ fn name_of(i: usize, units: Units) -> Vec<u16> {
     }
 }
 
-fn renamed(record: Record, name: Vec<u16>) -> Record {
+pub fn renamed(record: Record, name: Vec<u16>) -> Record {
     Record { name, ..record }
 }
 
-/// A file whose points are so many named entries, which opening counts.
-pub fn counted_names(names: usize, units: Units) -> Vec<u8> {
-    let point = |i| renamed(u32("", 0), name_of(i, units));
-    let points = vec![level("Points", (0..names).map(point).collect())];
-    needed(Sizes::packed(4, 4, 1, 16), &[(parts::POINTS, points)]).finish()
+/// An experiment whose points are these entries, which opening counts.
+pub fn counting(points: Vec<Record>) -> Record {
+    parts::experiment(&[(parts::POINTS, vec![level("Points", points)])])
 }
 
-/// A file whose loop is followed by so many named entries, levels or not, through which opening walks.
+/// An experiment of one loop of one time, followed by these entries, through which opening walks.
+pub fn walking(entries: Vec<Record>) -> Record {
+    let records = vec![
+        u32("eType", parts::TIME),
+        level("uLoopPars", parts::counted(1)),
+        level("ppNextLevelEx", entries),
+    ];
+    level("SLxExperiment", records)
+}
+
+/// A file whose points are so many named entries.
+pub fn counted_names(names: usize, units: Units) -> Vec<u8> {
+    let point = |i| renamed(u32("", 0), name_of(i, units));
+    small(&counting((0..names).map(point).collect()))
+}
+
+/// A file whose loop is followed by so many named entries, levels or not.
 pub fn walked_names(names: usize, levels: bool) -> Vec<u8> {
     let entry = |i| {
         let record = if levels {
@@ -120,10 +184,5 @@ pub fn walked_names(names: usize, levels: bool) -> Vec<u8> {
         };
         renamed(record, name_of(i, Units::First))
     };
-    let loops = vec![
-        u32("eType", parts::TIME),
-        level("uLoopPars", parts::counted(1)),
-        level("ppNextLevelEx", (0..names).map(entry).collect()),
-    ];
-    with_experiment(Sizes::packed(4, 4, 1, 16), level("SLxExperiment", loops)).finish()
+    small(&walking((0..names).map(entry).collect()))
 }

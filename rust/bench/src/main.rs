@@ -1,40 +1,52 @@
-//! Times the proved reader beside memcpy, the second implementation, the original and an earlier build.
+//! Times the proved reader beside memcpy, the second implementation, the original, an earlier build and a gather in C.
 //!
-//!     bench [ORIGINAL_FOLDER] [--before FOLDER] [--only planes|sheets|roller|map|names] [--side N] [--roller-side N]
-//!           [--entries N] [--names N] [--repetitions N]
+//!     bench [ORIGINAL_FOLDER] [--before FOLDER] [--only planes|sheets|roller|map|names|odd] [--side N] [--roller-side N]
+//!           [--entries N] [--names N] [--shrink N] [--seconds N] [--repetitions N]
 //!
 //! ORIGINAL_FOLDER has the original's nd2_reader.rs, calibration.rs, types.rs and guard.rs; without it the original is
-//! left out. The folder of --before has the libcapi.a of an earlier build, which opens the levels of names too. Planes
-//! have N x N samples (--side, 2048); those of the roller, of which there are 528, N x N too (--roller-side, 512: with
-//! 2048 the roller has 4.4 GB and as much memory is needed). All contenders take turns in this one process, and the best
-//! time of each counts. The exit status is 1 where a target is missed; one that needs the original, where that is left
-//! out, is told as not run.
+//! left out. The folder of --before has the libcapi.a of an earlier build, which opens the levels of names and the odd files
+//! too. Planes have N x N samples (--side, 2048); those of the roller, of which there are 528, N x N too (--roller-side, 512:
+//! with 2048 the roller has 4.4 GB and as much memory is needed). Odd files are slow on purpose: they have one Nth of their
+//! sizes (--shrink, 1), and after N seconds no further round of such a row begins (--seconds, 10). All contenders take turns
+//! in this one process, and the best time of each counts. The exit status is 1 where a target is missed; one that needs the
+//! original or a C compiler, where that is left out, is told as not run.
 
 mod before;
 mod cases;
+mod families;
 mod files;
+mod gather;
 mod library;
+mod maps;
 mod memory;
 mod names;
+mod odd;
+mod opening;
 mod original;
+mod planes;
+mod roller;
 mod sheets;
 mod table;
 mod timing;
 
-use names::Others;
 use nd2::raw::read_plane;
 use nd2::{Reader, Sheet};
+use opening::Others;
 use original::Original;
 use sample::parts::Sizes;
 use std::io;
 use std::ops::RangeInclusive;
 use std::path::PathBuf;
 use std::process::ExitCode;
+use std::time::Duration;
 use table::{Row, Verdict};
 
 const USAGE: &str = "\
-usage: bench [ORIGINAL_FOLDER] [--before FOLDER] [--only planes|sheets|roller|map|names] [--side N] [--roller-side N]
-             [--entries N] [--names N] [--repetitions N]";
+usage: bench [ORIGINAL_FOLDER] [--before FOLDER] [--only planes|sheets|roller|map|names|odd] [--side N] [--roller-side N]
+             [--entries N] [--names N] [--shrink N] [--seconds N] [--repetitions N]";
+
+/// What --only may name.
+const GROUPS: [&str; 6] = ["planes", "sheets", "roller", "map", "names", "odd"];
 
 /// Components and bits of the planes that are written as sheets.
 const SHEETS: [(u64, u64); 6] = [(1, 8), (1, 16), (1, 32), (3, 8), (3, 16), (3, 32)];
@@ -49,6 +61,8 @@ struct Options {
     roller_side: u32,
     entries: usize,
     names: usize,
+    shrink: usize,
+    seconds: u64,
     before: Option<PathBuf>,
     repetitions: u32,
 }
@@ -62,6 +76,8 @@ impl Default for Options {
             roller_side: 512,
             entries: 2_000_000,
             names: 10_000,
+            shrink: 1,
+            seconds: 10,
             before: None,
             repetitions: 5,
         }
@@ -89,6 +105,8 @@ fn options() -> Option<Options> {
             Some("--names") => {
                 options.names = value().filter(|n| *n <= files::MOST_NAMES)? as usize
             }
+            Some("--shrink") => options.shrink = value()? as usize,
+            Some("--seconds") => options.seconds = value()?.into(),
             Some("--before") => options.before = Some(PathBuf::from(arguments.next()?)),
             Some("--repetitions") => options.repetitions = value()?,
             Some("--only") => options.only = Some(group(arguments.next()?.to_str()?)?),
@@ -101,14 +119,20 @@ fn options() -> Option<Options> {
 }
 
 fn group(name: &str) -> Option<String> {
-    ["planes", "sheets", "roller", "map", "names"]
-        .contains(&name)
-        .then(|| name.to_string())
+    GROUPS.contains(&name).then(|| name.to_string())
 }
 
 impl Options {
     fn asks_for(&self, group: &str) -> bool {
         self.only.as_deref().is_none_or(|only| only == group)
+    }
+
+    fn limits(&self) -> odd::Limits {
+        odd::Limits {
+            repetitions: 4 * self.repetitions,
+            most: Duration::from_secs(self.seconds),
+            shrink: self.shrink,
+        }
     }
 }
 
@@ -151,10 +175,10 @@ fn times(options: &Options, others: Others) -> Vec<Verdict> {
     let original = others.original;
     let repetitions = options.repetitions;
     let mut verdicts = Vec::new();
-    let mut print = |rows: Vec<Row>| verdicts.extend(rows.iter().filter_map(table::print));
+    let mut print = |rows: Vec<Row>| verdicts.extend(rows.iter().flat_map(table::print));
     if options.asks_for("planes") {
-        for sizes in sizes(options.side) {
-            print(cases::plane(sizes, original, 4 * repetitions));
+        for sizes in planes::sizes(options.side) {
+            print(planes::rows(sizes, original, 4 * repetitions));
         }
     }
     if options.asks_for("sheets") {
@@ -164,35 +188,34 @@ fn times(options: &Options, others: Others) -> Vec<Verdict> {
         }
     }
     if options.asks_for("roller") {
-        print(cases::roller(options.roller_side, original, repetitions));
+        print(roller::rows(options.roller_side, original, repetitions));
     }
     if options.asks_for("map") {
-        print(cases::large_map(options.entries, original, repetitions));
+        print(maps::rows(options.entries, original, repetitions));
     }
     if options.asks_for("names") {
         print(names::rows(options.names, others, repetitions));
     }
-    println!();
-    println!("'bytes' are what memcpy copies: those of the planes, of the map, of the file with names. The original has no register:");
-    println!("its map is asked for each frame; nor has it sheets: these stand beside the proved reader's plane; nor picometres.");
-    let so_many = |which| verdicts.iter().filter(|&&verdict| verdict == which).count();
-    let [met, missed] = [Verdict::Met, Verdict::Missed].map(so_many);
-    let not_run = so_many(Verdict::NotRun);
-    println!("Targets: {met} met, {missed} missed, {not_run} not run (they need the original).");
+    if options.asks_for("odd") {
+        for family in odd::families(others, options.limits()) {
+            print(family.rows);
+            println!("{}", family.told);
+        }
+    }
+    explain(&verdicts);
     verdicts
 }
 
-/// 1 component, the same with padded rows, 2 and 3 components; each with 8, 16 and 32 bits.
-fn sizes(side: u64) -> Vec<Sizes> {
-    let shapes = [(1, 0), (1, 12), (2, 0), (3, 0)];
-    let shaped = |(components, padding)| {
-        [8, 16, 32].map(|bits| {
-            let mut sizes = Sizes::packed(side, side, components, bits);
-            sizes.stride += padding;
-            sizes
-        })
-    };
-    shapes.into_iter().flat_map(shaped).collect()
+/// What stands below the table.
+fn explain(verdicts: &[Verdict]) {
+    println!();
+    println!("'bytes' are what memcpy copies: those of the planes, of the map, of the file with names or an odd one. The original has no register:");
+    println!("its map is asked for each frame; nor has it sheets: these stand beside the proved reader's plane; nor picometres. The gather is a loop");
+    println!("in C over the rows of a frame. Below the sizes of an odd file stands by which power of the size the time grows.");
+    let so_many = |which| verdicts.iter().filter(|&&verdict| verdict == which).count();
+    let [met, missed] = [Verdict::Met, Verdict::Missed].map(so_many);
+    let not_run = so_many(Verdict::NotRun);
+    println!("Targets: {met} met, {missed} missed, {not_run} not run (they need the original or a C compiler).");
 }
 
 /// What memory opening a file and reading one plane take, beyond the file and the samples that are lent.
@@ -246,7 +269,7 @@ impl Memory {
         }
         match &self.stack {
             Ok(bytes) => {
-                println!("  stack     {bytes} bytes in the nine calls, on a tree of 64 levels too")
+                println!("  stack     {bytes} bytes in the nine calls, on a tree of 64 levels too (with the table of entries)")
             }
             Err(error) => println!("  stack     {error}"),
         }

@@ -1,9 +1,9 @@
 //! Sheets, beside the plane call that reads the same samples.
 
-use crate::cases::{components, copied, proved_plane, row_starts, Case};
+use crate::cases::{components, copying, proved_plane, row_starts, Case};
 use crate::files;
 use crate::table::{Row, Target};
-use crate::timing::{race, race_after, turn, Best, Who};
+use crate::timing::{race, race_after, Best, Turns, Who};
 use nd2::raw::{self, SHEET_HEAD_BYTES};
 use sample::parts::Sizes;
 use std::cell::RefCell;
@@ -24,18 +24,22 @@ pub fn rows(sizes: Sizes, repetitions: u32) -> Vec<Row> {
     let start = row_starts(&case)[0];
     let source = &file[start..start + bytes];
     let at = [0, 0, sizes.components - 1, 0];
-    let row = |what: String, best, target| Row {
+    let row = |what: String, best, targets| Row {
         what,
         bytes,
         best,
-        target,
+        targets,
     };
     let of = format!("{} of {} bits", components(sizes.components), sizes.bits);
     let written = case.sheet(at, repetitions, source);
-    let mut rows = vec![row(format!("sheet, {of}"), written, Some(TARGET))];
+    let mut rows = vec![row(format!("sheet, {of}"), written, vec![TARGET])];
     if sizes.components == 1 {
         let read = case.read_sheet(at, repetitions, source);
-        rows.push(row(format!("sheet read, {} bits", sizes.bits), read, None));
+        rows.push(row(
+            format!("sheet read, {} bits", sizes.bits),
+            read,
+            vec![],
+        ));
     }
     rows
 }
@@ -75,7 +79,6 @@ impl Case<'_> {
     fn sheet(&self, at: [u64; 4], repetitions: u32, source: &[u8]) -> Best {
         self.agreed_sheet(at);
         let lent = &RefCell::new(self.sheet_buffer());
-        let mut copy = vec![1; source.len()];
         let sheet = move || {
             let sheet = &mut lent.borrow_mut();
             assert!(self.proved_sheet(at, black_box(sheet)));
@@ -84,50 +87,39 @@ impl Case<'_> {
             let samples = &mut lent.borrow_mut()[..source.len()];
             assert!(proved_plane(&self.proved, at, black_box(samples)));
         };
-        let mut frame = self.frame_copied();
+        let mut frame = copying(self.file);
         let before = || {
             frame();
             lent.borrow_mut().fill(1);
         };
-        let memcpy = turn(move || copied(source, &mut copy));
-        let turns = [memcpy, turn(sheet), None, None, turn(plane), None];
+        let turns = Turns::new()
+            .and(Who::Memcpy, copying(source))
+            .and(Who::Proved, sheet)
+            .and(Who::Plane, plane);
         let mut best = race_after(before, repetitions, turns);
         let second = || assert_eq!(self.second_sheet(at, black_box(&mut lent.borrow_mut())), 0);
-        let alone = race(
-            repetitions.div_ceil(8),
-            1,
-            [None, None, turn(second), None, None, None],
-        );
+        let alone = Turns::new().and(Who::Second, second);
+        let alone = race(repetitions.div_ceil(8), 1, alone);
         best[Who::Second as usize] = alone[Who::Second as usize];
         best
-    }
-
-    /// Copies the file, which is little more than its frame.
-    fn frame_copied(&self) -> impl FnMut() + '_ {
-        let mut copy = vec![1; self.file.len()];
-        move || copied(self.file, &mut copy)
     }
 
     fn read_sheet(&self, at: [u64; 4], repetitions: u32, source: &[u8]) -> Best {
         let sheet = &self.agreed_sheet(at);
         let buffer = || vec![1u8; source.len()];
-        let (mut copy, mut proved, mut second) = (buffer(), buffer(), buffer());
+        let (mut proved, mut second) = (buffer(), buffer());
         let mut sizes = [0; 3];
         assert_eq!(raw::read_sheet(sheet, &mut proved, &mut sizes), 0);
         assert!(second::read_sheet(sheet, &mut second).is_ok() && proved == second);
-        let turns = [
-            turn(move || copied(source, &mut copy)),
-            turn(move || {
-                assert_eq!(
-                    raw::read_sheet(sheet, black_box(&mut proved), &mut sizes),
-                    0
-                )
-            }),
-            turn(move || assert!(second::read_sheet(sheet, black_box(&mut second)).is_ok())),
-            None,
-            None,
-            None,
-        ];
-        race_after(self.frame_copied(), repetitions, turns)
+        let turns = Turns::new()
+            .and(Who::Memcpy, copying(source))
+            .and(Who::Proved, move || {
+                let number = raw::read_sheet(sheet, black_box(&mut proved), &mut sizes);
+                assert_eq!(number, 0)
+            })
+            .and(Who::Second, move || {
+                assert!(second::read_sheet(sheet, black_box(&mut second)).is_ok())
+            });
+        race_after(copying(self.file), repetitions, turns)
     }
 }

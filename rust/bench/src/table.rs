@@ -2,6 +2,9 @@
 
 use crate::timing::{Best, Who, ALL};
 
+/// Letters of the first column.
+const WIDTH: usize = 60;
+
 /// The most that a ratio of ours to another's time may be.
 #[derive(Clone, Copy)]
 pub struct Target {
@@ -22,36 +25,41 @@ pub struct Row {
     pub what: String,
     pub bytes: usize,
     pub best: Best,
-    pub target: Option<Target>,
+    pub targets: Vec<Target>,
 }
 
-impl Row {
-    fn ratio(&self, against: Who) -> Option<f64> {
-        let time = |who: Who| self.best[who as usize];
-        Some(time(Who::Proved)? / time(against)?)
+impl Target {
+    pub fn new(against: Who, most: f64) -> Target {
+        Target { against, most }
     }
 
-    /// What became of the row's target, where it has one.
-    fn verdict(&self) -> Option<Verdict> {
-        let target = self.target?;
-        Some(match self.ratio(target.against) {
-            Some(ratio) if ratio <= target.most => Verdict::Met,
-            Some(_) => Verdict::Missed,
-            None => Verdict::NotRun,
-        })
-    }
-
-    /// The last column.
-    fn told(&self) -> String {
-        let (Some(target), Some(verdict)) = (self.target, self.verdict()) else {
-            return String::new();
-        };
+    /// What the last column says of it.
+    fn told(self, verdict: Verdict) -> String {
         let word = match verdict {
             Verdict::Met => "pass",
             Verdict::Missed => "MISS",
             Verdict::NotRun => "not run",
         };
-        format!("{} x {}: {word}", target.most, name(target.against))
+        format!("{} x {}: {word}", self.most, name(self.against))
+    }
+}
+
+impl Row {
+    /// The best time of a contender.
+    pub fn time(&self, who: Who) -> Option<f64> {
+        self.best[who as usize]
+    }
+
+    fn ratio(&self, against: Who) -> Option<f64> {
+        Some(self.time(Who::Proved)? / self.time(against)?)
+    }
+
+    fn verdict(&self, target: Target) -> Verdict {
+        match self.ratio(target.against) {
+            Some(ratio) if ratio <= target.most => Verdict::Met,
+            Some(_) => Verdict::Missed,
+            None => Verdict::NotRun,
+        }
     }
 }
 
@@ -63,7 +71,13 @@ pub fn name(who: Who) -> &'static str {
         Who::Original => "original",
         Who::Plane => "plane",
         Who::Before => "before",
+        Who::Gather => "gather",
     }
+}
+
+/// All but the proved reader.
+fn others() -> impl Iterator<Item = Who> {
+    ALL.into_iter().filter(|who| *who != Who::Proved)
 }
 
 fn milliseconds(seconds: Option<f64>) -> String {
@@ -82,28 +96,23 @@ fn shown(ratio: Option<f64>) -> String {
 pub fn head() {
     println!("Best times in milliseconds, and ours (proved) as a ratio to each of the others.");
     println!();
-    print!("{:46} {:>12}", "", "bytes");
+    print!("{:WIDTH$} {:>12}", "", "bytes");
     ALL.iter().for_each(|who| print!(" {:>9}", name(*who)));
-    println!(
-        "  {:>8} {:>8} {:>9} {:>7} {:>7}  target",
-        "/memcpy", "/second", "/original", "/plane", "/before"
-    );
+    print!(" ");
+    others().for_each(|who| print!(" {:>9}", format!("/{}", name(who))));
+    println!("  target");
 }
 
-/// Prints a row; what became of its target.
-pub fn print(row: &Row) -> Option<Verdict> {
-    print!("{:46} {:>12}", row.what, row.bytes);
-    row.best
-        .iter()
-        .for_each(|best| print!(" {:>9}", milliseconds(*best)));
-    println!(
-        "  {:>8} {:>8} {:>9} {:>7} {:>7}  {}",
-        shown(row.ratio(Who::Memcpy)),
-        shown(row.ratio(Who::Second)),
-        shown(row.ratio(Who::Original)),
-        shown(row.ratio(Who::Plane)),
-        shown(row.ratio(Who::Before)),
-        row.told(),
-    );
-    row.verdict()
+/// Prints a row; what became of its targets.
+pub fn print(row: &Row) -> Vec<Verdict> {
+    let verdicts: Vec<Verdict> = row.targets.iter().map(|t| row.verdict(*t)).collect();
+    let targets = row.targets.iter().zip(&verdicts);
+    let told: Vec<String> = targets.map(|(t, verdict)| t.told(*verdict)).collect();
+    print!("{:WIDTH$} {:>12}", row.what, row.bytes);
+    ALL.iter()
+        .for_each(|who| print!(" {:>9}", milliseconds(row.time(*who))));
+    print!(" ");
+    others().for_each(|who| print!(" {:>9}", shown(row.ratio(who))));
+    println!("  {}", told.join(", "));
+    verdicts
 }

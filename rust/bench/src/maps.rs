@@ -1,0 +1,69 @@
+//! Maps of many entries.
+
+use crate::cases::{copying, Case};
+use crate::files::{self, MapNames};
+use crate::original::Original;
+use crate::table::{Row, Target};
+use crate::timing::{race, race_after, Turns, Who};
+
+/// A further size of the maps, where that is smaller.
+const FEWER: usize = 100_000;
+
+/// Passing over a map may take so much of memcpy's time.
+fn targets() -> Vec<Target> {
+    vec![Target::new(Who::Memcpy, 3.0)]
+}
+
+/// Maps of so many entries, and of fewer: opening, and one plane; of the frames' names also the register.
+pub fn rows(entries: usize, original: Option<Original>, repetitions: u32) -> Vec<Row> {
+    let sizes = [Some(entries), (FEWER < entries).then_some(FEWER)];
+    let maps = sizes.into_iter().flatten().flat_map(|entries| {
+        let names = [MapNames::Frames, MapNames::OneLength, MapNames::Mixed];
+        names.map(|names| (entries, names))
+    });
+    maps.flat_map(|(entries, names)| of_map(entries, names, original, repetitions))
+        .collect()
+}
+
+fn label(names: MapNames) -> &'static str {
+    match names {
+        MapNames::Frames => "frames",
+        MapNames::OneLength => "one length",
+        MapNames::Mixed => "mixed lengths",
+    }
+}
+
+fn of_map(
+    entries: usize,
+    names: MapNames,
+    original: Option<Original>,
+    repetitions: u32,
+) -> Vec<Row> {
+    let file = files::large_map(entries, names);
+    let case = Case::new(&file, original);
+    let (map, summary) = (case.map(), case.proved.summary());
+    let row = |what: String, best, targets| Row {
+        what,
+        bytes: map.len(),
+        best,
+        targets,
+    };
+    let passing = |what: &str, turns: Turns| {
+        let best = race_after(copying(map), repetitions, turns);
+        row(
+            format!("{what}, {entries} entries, {}", label(names)),
+            best,
+            targets(),
+        )
+    };
+    let last = [1, summary.times() - 1, 0, 0];
+    let mut rows = vec![
+        passing("open a map", case.open(original)),
+        passing("plane of 4 x 4", case.plane(last, map)),
+    ];
+    if names == MapNames::Frames {
+        let what = format!("register of {} frames", summary.frames());
+        rows.push(row(what, race(repetitions, 1, case.register()), vec![]));
+    }
+    rows
+}
