@@ -10,6 +10,9 @@ pub const GATHER: Option<Gather> = Some(gathered);
 #[cfg(not(gather))]
 pub const GATHER: Option<Gather> = None;
 
+/// What compiled it.
+pub const COMPILER: Option<&str> = option_env!("GATHER_COMPILER");
+
 #[cfg(gather)]
 extern "C" {
     fn bench_gather(

@@ -210,8 +210,11 @@ fn times(options: &Options, others: Others) -> Vec<Verdict> {
 fn explain(verdicts: &[Verdict]) {
     println!();
     println!("'bytes' are what memcpy copies: those of the planes, of the map, of the file with names or an odd one. The original has no register:");
-    println!("its map is asked for each frame; nor has it sheets: these stand beside the proved reader's plane; nor picometres. The gather is a loop");
-    println!("in C over the rows of a frame. Below the sizes of an odd file stands by which power of the size the time grows.");
+    println!("its map is asked for each frame; nor has it sheets: these stand beside the proved reader's plane; nor picometres. The gather is a loop in C");
+    println!(
+        "(compiled by: {}). Below the sizes of an odd file stands by which power of the size the time grows.",
+        gather::COMPILER.unwrap_or("none")
+    );
     let so_many = |which| verdicts.iter().filter(|&&verdict| verdict == which).count();
     let [met, missed] = [Verdict::Met, Verdict::Missed].map(so_many);
     let not_run = so_many(Verdict::NotRun);

@@ -6,8 +6,9 @@ use crate::original::Original;
 use crate::table::{Row, Target};
 use crate::timing::{race, race_after, Turns, Who};
 
-/// A further size of the maps, where that is smaller.
+/// A further size of the maps, where that is smaller. It is passed over faster, and so more often.
 const FEWER: usize = 100_000;
+const FEWER_REPETITIONS: u32 = 4;
 
 /// Passing over a map may take so much of memcpy's time.
 fn targets() -> Vec<Target> {
@@ -16,13 +17,16 @@ fn targets() -> Vec<Target> {
 
 /// Maps of so many entries, and of fewer: opening, and one plane; of the frames' names also the register.
 pub fn rows(entries: usize, original: Option<Original>, repetitions: u32) -> Vec<Row> {
-    let sizes = [Some(entries), (FEWER < entries).then_some(FEWER)];
-    let maps = sizes.into_iter().flatten().flat_map(|entries| {
+    let maps = |entries, repetitions| {
         let names = [MapNames::Frames, MapNames::OneLength, MapNames::Mixed];
-        names.map(|names| (entries, names))
-    });
-    maps.flat_map(|(entries, names)| of_map(entries, names, original, repetitions))
-        .collect()
+        let rows = names.map(|names| of_map(entries, names, original, repetitions));
+        rows.into_iter().flatten()
+    };
+    let mut rows: Vec<Row> = maps(entries, repetitions).collect();
+    if FEWER < entries {
+        rows.extend(maps(FEWER, FEWER_REPETITIONS * repetitions));
+    }
+    rows
 }
 
 fn label(names: MapNames) -> &'static str {
