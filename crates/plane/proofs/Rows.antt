@@ -1,15 +1,16 @@
 -- Pieces of a list and rows of them: how long they are, and what one more makes of a buffer. Assumes nothing.
-use Prim.Native.Nat.{ℕ, zero, suc, _+_, _-_, _*_, _≤_, _<_}
+use Prim.Native.Nat.{ℕ, zero, suc, _+_, _-_, _*_, _/_, _%_, _^_, _≤_, _<_}
 use mathlib.Core.Path.{_≡_, refl, sym, ap, ap₂, _∙_}
-use mathlib.Core.List.{List, _++_}
-use native.Mathlib.Nat.{suc-mul, zero-mul, mul-le-mul-right, add-sub-cancel-left}
+use mathlib.Core.List.{List, [], _∷_, _++_}
+use native.Mathlib.Nat.{suc-mul, zero-mul, mul-one, mul-le-mul-right, add-sub-cancel-left}
 use native.Mathlib.Numerals.{add-one}
 use native.Mathlib.Omega.{arith}
-use lib.ListN.{length, take, drop, length-append}
+use lib.ListN.{length, take, drop, getD, set, length-append}
+use lib.Seq.{drop-cons}
 use borrow.Rule.Slice.PartMut.{putMid}
 use Rattle.format.specs.Bytes.{part, over}
 use Rattle.format.proofs.Bytes.{part-length}
-use Rattle.format.proofs.Buffers.{part-part, part-join, over-all, over-more}
+use Rattle.format.proofs.Buffers.{part-part, part-join, over-all, over-more, over-stored}
 use Rattle.plane.specs.Pieces.{pieces, rows}
 
 -- turn k of n, of a bytes each, ends within them
@@ -62,6 +63,30 @@ pub pieces-once : (s d q : List ℕ) (w step k : ℕ) → w ≡ step → k * w �
 unfolding over
 pieces-once s d q w step k e h eq =
     rw (← e, pieces-joined s 0 w k, part-length s 0 (k * w) (omega arith), eq) refl
+
+-- ---- pieces of one byte
+
+-- the byte of d behind k of them, replaced by the next
+pub byte-more : (s d₀ d : List ℕ) (at step k v : ℕ) → at + 1 ≤ step → k * step + step ≤ length s → k < length d₀ → d ≡ over (pieces s at step 1 k) d₀
+    → v ≡ getD s (at + k * step) 0 → set d k v ≡ over (pieces s at step 1 (k + 1)) d₀
+unfolding pieces part
+byte-more s d₀ d at step k v h hk hd ed ev =
+    let l : length (pieces s at step 1 k) ≡ k = pieces-length s at step 1 h k (omega arith) ∙ mul-one k in
+    let one : part s (at + k * step) 1 ≡ v ∷ [] = rw (drop-cons s (at + k * step) 0 (omega arith), ev) refl in
+    rw (ed, add-one)
+    (over-stored (pieces s at step 1 k) (v ∷ []) d₀ k l (omega arith) ∙ ap (λ (x : List ℕ). over (pieces s at step 1 k ++ x) d₀) (sym one))
+
+-- the byte of a pair at `at`, by a shift
+pub half-at : (a b at : ℕ) → a < 256 → b < 256 → at < 2 → (a + 256 * b) / 2 ^ (8 * at) % 256 ≡ getD (a ∷ (b ∷ [])) at 0
+half-at a b zero ha hb h = omega arith
+half-at a b (suc zero) ha hb h = omega arith
+half-at a b (suc (suc at)) ha hb h = absurd (omega arith)
+
+-- of pair k
+pub half-of : (s : List ℕ) (at k : ℕ) → at < 2 → getD (getD s (2 * k) 0 ∷ (getD s (2 * k + 1) 0 ∷ [])) at 0 ≡ getD s (at + k * 2) 0
+half-of s zero k h = ap (λ (i : ℕ). getD s i 0) (omega arith)
+half-of s (suc zero) k h = ap (λ (i : ℕ). getD s i 0) (omega arith)
+half-of s (suc (suc at)) k h = absurd (omega arith)
 
 -- ---- rows
 

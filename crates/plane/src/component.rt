@@ -17,7 +17,7 @@ fn copy_rows(rows: &[u8], u: Summary, c: u64, samples: &mut [u8], lead: usize)
     copy_whole(rows, samples, u.stride as usize, w, u.height as usize, lead);
 }
 
-// Copies the samples of `size` bytes of component c out of the rows of a frame.
+// Copies the samples of `size` bytes of component c out of the rows of a frame: with two components as a literal, so that it is compiled for them.
 fn gather_samples(rows: &[u8], u: Summary, c: u64, size: usize, samples: &mut [u8])
     requires { ⌜ (size ≡ u .bits / 8) × Fit u c (length (now rows)) (length (now samples)) ⌝ }
     ensures { λ _. ⌜ now (samples .exit) ≡ over (planeIn u c (now (rows .entry))) (now (samples .entry)) ⌝ }
@@ -27,6 +27,10 @@ fn gather_samples(rows: &[u8], u: Summary, c: u64, size: usize, samples: &mut [u
     let stride = u.stride as usize;
     let components = u.components as usize;
     let at = c as usize * size;
+    if components == 2 {
+        gather_rows(rows, samples, stride, at, 2 * size, size, width, height);
+        return;
+    }
     gather_rows(
         rows,
         samples,

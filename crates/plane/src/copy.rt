@@ -1,7 +1,8 @@
 // Rows of bytes copied out of a frame's data: whole, or the samples of one component.
 ghost use mathlib.Core.Path.{_≡_};
-ghost use Prim.Native.Nat.{_+_, _*_, _≤_};
-ghost use lib.ListN.{length};
+ghost use mathlib.Core.List.{[], _∷_};
+ghost use Prim.Native.Nat.{_+_, _*_, _≤_, _<_};
+ghost use lib.ListN.{length, getD};
 ghost use Rattle.format.specs.Bytes.{over};
 ghost use Rattle.plane.specs.Pieces.{pieces, rows};
 ghost use Rattle.plane.specs.Parts.{Alike};
@@ -118,6 +119,55 @@ fn copy_pieces(src: &[u8], dst: &mut [u8], at: usize, step: usize, size: usize, 
     }
 }
 
+// Copies `count` bytes, at `at`, at + step, .. in src, to the front of dst. Each place is a product: none waits for the one before it.
+fn copy_singles(src: &[u8], dst: &mut [u8], at: usize, step: usize, count: usize)
+    requires { ⌜ (at + 1 ≤ step) × (count * step ≤ length (now src)) × (count ≤ length (now dst)) ⌝ }
+    ensures { λ _. ⌜ now (dst .exit) ≡ over (pieces (now (src .entry)) at step 1 count) (now (dst .entry)) ⌝ }
+{
+    let mut k = 0;
+    while k < count {
+        dst[k] = src[at + k * step];
+        k += 1;
+    }
+}
+
+// The byte of a pair at `at`: the pair is shifted by a number that only a call tells. So the compiler keeps the pair whole, and shifts many of them at once.
+fn half(first: u8, second: u8, at: usize) -> u8
+    requires { ⌜ at < 2 ⌝ }
+    ensures { λ r. ⌜ r ≡ getD (first ∷ (second ∷ [])) at 0 ⌝ }
+{
+    let pair = first as u16 + 256 * (second as u16);
+    ((pair >> (8 * at)) % 256) as u8
+}
+
+// Copies the byte at `at` of each of `count` pairs to the front of dst.
+fn copy_halves(src: &[u8], dst: &mut [u8], at: usize, count: usize)
+    requires { ⌜ (at < 2) × (count * 2 ≤ length (now src)) × (count ≤ length (now dst)) ⌝ }
+    ensures { λ _. ⌜ now (dst .exit) ≡ over (pieces (now (src .entry)) at 2 1 count) (now (dst .entry)) ⌝ }
+{
+    let mut k = 0;
+    while k < count {
+        dst[k] = half(src[2 * k], src[2 * k + 1], at);
+        k += 1;
+    }
+}
+
+// Copies `count` samples of `size` bytes, at `at`, at + step, .. in src, to the front of dst.
+fn copy_spread(src: &[u8], dst: &mut [u8], at: usize, step: usize, size: usize, count: usize)
+    requires { ⌜ (at + size ≤ step) × (count * step ≤ length (now src)) × (count * size ≤ length (now dst)) ⌝ }
+    ensures { λ _. ⌜ now (dst .exit) ≡ over (pieces (now (src .entry)) at step size count) (now (dst .entry)) ⌝ }
+{
+    if size == 1 {
+        if step == 2 {
+            copy_halves(src, dst, at, count);
+            return;
+        }
+        copy_singles(src, dst, at, step, count);
+        return;
+    }
+    copy_pieces(src, dst, at, step, size, count);
+}
+
 // Copies the first `w` bytes of each of `count` rows of `stride` bytes, at once where a row has no others, `lead` of them first.
 pub fn copy_whole(src: &[u8], dst: &mut [u8], stride: usize, w: usize, count: usize, lead: usize)
     requires { ⌜ (w ≤ stride) × (count * stride ≤ length (now src)) × (count * w ≤ length (now dst)) ⌝ }
@@ -152,7 +202,7 @@ pub fn gather_rows(
     while y < height {
         let e = from + stride;
         let f = to + w;
-        copy_pieces(&src[from..e], &mut dst[to..f], at, step, size, width);
+        copy_spread(&src[from..e], &mut dst[to..f], at, step, size, width);
         from = e;
         to = f;
         y += 1;

@@ -41,23 +41,23 @@ add-e c = omega (arith, src-in c)
 add-f : tie.Need-add-f Inv-loop μ-loop
 add-f c = omega (arith, dst-in c)
 
-sub-copy-pieces : tie.Need-sub-copy-pieces Inv-loop μ-loop
-sub-copy-pieces c = omega arith
+sub-copy-spread : tie.Need-sub-copy-spread Inv-loop μ-loop
+sub-copy-spread c = omega arith
 
-part-copy-pieces-start : tie.Need-part-copy-pieces-start Inv-loop μ-loop
-part-copy-pieces-start c = omega arith
+part-copy-spread-start : tie.Need-part-copy-spread-start Inv-loop μ-loop
+part-copy-spread-start c = omega arith
 
-part-copy-pieces-end : tie.Need-part-copy-pieces-end Inv-loop μ-loop
-part-copy-pieces-end c = omega (arith, src-in c)
+part-copy-spread-end : tie.Need-part-copy-spread-end Inv-loop μ-loop
+part-copy-spread-end c = omega (arith, src-in c)
 
-sub-copy-pieces-2 : tie.Need-sub-copy-pieces-2 Inv-loop μ-loop
-sub-copy-pieces-2 c = omega arith
+sub-copy-spread-2 : tie.Need-sub-copy-spread-2 Inv-loop μ-loop
+sub-copy-spread-2 c = omega arith
 
-part-copy-pieces-start-2 : tie.Need-part-copy-pieces-start-2 Inv-loop μ-loop
-part-copy-pieces-start-2 c = omega arith
+part-copy-spread-start-2 : tie.Need-part-copy-spread-start-2 Inv-loop μ-loop
+part-copy-spread-start-2 c = omega arith
 
-part-copy-pieces-end-2 : tie.Need-part-copy-pieces-end-2 Inv-loop μ-loop
-part-copy-pieces-end-2 c = omega (arith, dst-in (c .before))
+part-copy-spread-end-2 : tie.Need-part-copy-spread-end-2 Inv-loop μ-loop
+part-copy-spread-end-2 c = omega (arith, dst-in (c .before))
 
 -- the part of dst that is written in a turn
 lent : (c : tie.In-loop Inv-loop μ-loop) → let a = c .before .before .before .before .args in let l = c .before .loop in
@@ -67,8 +67,8 @@ lent c =
     let l = c .before .loop in
     rw add-sub-cancel-left (length-part (l .dst) (l .to) (a .width * a .size) (omega (arith, dst-in c)))
 
-copy-pieces-requires : tie.Need-copy-pieces-requires Inv-loop μ-loop
-copy-pieces-requires c κs =
+copy-spread-requires : tie.Need-copy-spread-requires Inv-loop μ-loop
+copy-spread-requires c κs =
     let t = c .before .before in
     let l = t .before .loop in
     let a = t .before .before .before .before .args in (
@@ -89,7 +89,7 @@ loop-again c =
     let l = t .before .loop in
     let a = t .before .before .before .before .args in
     let w = a .width * a .size in
-    let q = c .before .before .copy-pieces in (
+    let q = c .before .before .copy-spread in (
       omega arith,
       rw (add-one, suc-mul) (omega arith),
       rw (add-one, suc-mul) (omega arith),
@@ -118,13 +118,13 @@ gather-rows-spec =
     loop-holds
     add-e
     add-f
-    sub-copy-pieces
-    part-copy-pieces-start
-    part-copy-pieces-end
-    sub-copy-pieces-2
-    part-copy-pieces-start-2
-    part-copy-pieces-end-2
-    copy-pieces-requires
+    sub-copy-spread
+    part-copy-spread-start
+    part-copy-spread-end
+    sub-copy-spread-2
+    part-copy-spread-start-2
+    part-copy-spread-end-2
+    copy-spread-requires
     add-y
     loop-less
     loop-again
