@@ -10,6 +10,7 @@ use Rattle.format.specs.Attributes.{sampleBytes}
 use Rattle.format.specs.Frames.{samplePlace}
 use Rattle.format.specs.Summary.{shapeOf}
 use Rattle.format.specs.Calls.Plane.{samples, planeSamples}
+use Rattle.format.specs.Grammar.Attributes.{Bits, eight, sixteen, thirtytwo}
 use Rattle.format.specs.declared.Range.{Range}
 use Rattle.format.specs.declared.Attributes.{Attributes}
 use Rattle.format.specs.declared.Summary.{Summary}
@@ -20,6 +21,12 @@ use Rattle.plane.specs.Found.{planeIn, Fit}
 use Rattle.plane.proofs.Rows.{turn, pieces-part, rows-joined}
 
 -- ---- where they are copied
+
+-- a sample has four bytes where it has neither 8 nor 16 bits
+pub four-bytes : (b : ℕ) → Bits b → (b ≡ 8 → ⊥) → (b ≡ 16 → ⊥) → 4 ≡ b / 8
+four-bytes b eight f g = absurd (f refl)
+four-bytes b sixteen f g = absurd (g refl)
+four-bytes b thirtytwo f g = refl
 
 module _ {u : Summary} {c len room : ℕ} (f : Fit u c len room) where
   -- sample c lies in its pixel, a row's pixels in the row, and the samples in the buffer

@@ -17,20 +17,22 @@ fn copy_rows(rows: &[u8], u: Summary, c: u64, samples: &mut [u8], lead: usize)
     copy_whole(rows, samples, u.stride as usize, w, u.height as usize, lead);
 }
 
-// Copies the samples of `size` bytes of component c out of the rows of a frame: with two components as a literal, so that it is compiled for them.
-fn gather_samples(rows: &[u8], u: Summary, c: u64, size: usize, samples: &mut [u8])
-    requires { ⌜ (size ≡ u .bits / 8) × Fit u c (length (now rows)) (length (now samples)) ⌝ }
+// Copies the samples of `size` bytes of component c, of so many, out of the rows of a frame.
+fn gather_samples(
+    rows: &[u8],
+    u: Summary,
+    c: u64,
+    components: usize,
+    size: usize,
+    samples: &mut [u8],
+)
+    requires { ⌜ (components ≡ u .components) × (size ≡ u .bits / 8) × Fit u c (length (now rows)) (length (now samples)) ⌝ }
     ensures { λ _. ⌜ now (samples .exit) ≡ over (planeIn u c (now (rows .entry))) (now (samples .entry)) ⌝ }
 {
     let width = u.width as usize;
     let height = u.height as usize;
     let stride = u.stride as usize;
-    let components = u.components as usize;
     let at = c as usize * size;
-    if components == 2 {
-        gather_rows(rows, samples, stride, at, 2 * size, size, width, height);
-        return;
-    }
     gather_rows(
         rows,
         samples,
@@ -43,8 +45,41 @@ fn gather_samples(rows: &[u8], u: Summary, c: u64, size: usize, samples: &mut [u
     );
 }
 
-// Copies the samples of component c: whole rows where there is no other, and else with each size as a literal, so that it is compiled for each.
-// Where all are one run, `lead` bytes of it are copied first.
+// Copies the samples of component c of two: with each step as a literal, so that it is compiled for each.
+fn gather_of_two(rows: &[u8], u: Summary, c: u64, samples: &mut [u8])
+    requires { ⌜ (u .components ≡ 2) × Fit u c (length (now rows)) (length (now samples)) ⌝ }
+    ensures { λ _. ⌜ now (samples .exit) ≡ over (planeIn u c (now (rows .entry))) (now (samples .entry)) ⌝ }
+{
+    if u.bits == 8 {
+        gather_samples(rows, u, c, 2, 1, samples);
+        return;
+    }
+    if u.bits == 16 {
+        gather_samples(rows, u, c, 2, 2, samples);
+        return;
+    }
+    gather_samples(rows, u, c, 2, 4, samples);
+}
+
+// Copies the samples of component c of any number: with each size as a literal.
+fn gather_of_many(rows: &[u8], u: Summary, c: u64, samples: &mut [u8])
+    requires { ⌜ Fit u c (length (now rows)) (length (now samples)) ⌝ }
+    ensures { λ _. ⌜ now (samples .exit) ≡ over (planeIn u c (now (rows .entry))) (now (samples .entry)) ⌝ }
+{
+    let components = u.components as usize;
+    if u.bits == 8 {
+        gather_samples(rows, u, c, components, 1, samples);
+        return;
+    }
+    if u.bits == 16 {
+        gather_samples(rows, u, c, components, 2, samples);
+        return;
+    }
+    gather_samples(rows, u, c, components, 4, samples);
+}
+
+// Copies the samples of component c: whole rows where there is no other, and else sample by sample. Where all are one run, `lead` bytes of it are
+// copied first.
 pub fn copy_samples(rows: &[u8], u: Summary, c: u64, samples: &mut [u8], lead: usize)
     requires { ⌜ Fit u c (length (now rows)) (length (now samples)) ⌝ }
     ensures { λ _. ⌜ now (samples .exit) ≡ over (planeIn u c (now (rows .entry))) (now (samples .entry)) ⌝ }
@@ -53,13 +88,9 @@ pub fn copy_samples(rows: &[u8], u: Summary, c: u64, samples: &mut [u8], lead: u
         copy_rows(rows, u, c, samples, lead);
         return;
     }
-    if u.bits == 8 {
-        gather_samples(rows, u, c, 1, samples);
+    if u.components == 2 {
+        gather_of_two(rows, u, c, samples);
         return;
     }
-    if u.bits == 16 {
-        gather_samples(rows, u, c, 2, samples);
-        return;
-    }
-    gather_samples(rows, u, c, 4, samples);
+    gather_of_many(rows, u, c, samples);
 }
