@@ -1,12 +1,12 @@
 -- Pieces of a list and rows of them: how long they are, and what one more makes of a buffer. Assumes nothing.
 use Prim.Native.Nat.{ℕ, zero, suc, _+_, _-_, _*_, _/_, _%_, _^_, _≤_, _<_}
 use mathlib.Core.Path.{_≡_, refl, sym, ap, ap₂, _∙_}
-use mathlib.Core.List.{List, [], _∷_, _++_}
-use native.Mathlib.Nat.{suc-mul, zero-mul, mul-one, mul-le-mul-right, add-sub-cancel-left}
+use mathlib.Core.List.{List, [], _∷_, _++_, append-assoc, append-nil}
+use native.Mathlib.Nat.{add-zero, add-suc, suc-mul, zero-mul, mul-one, add-mul, le-trans, mul-le-mul-right, add-sub-cancel-left}
 use native.Mathlib.Numerals.{add-one}
 use native.Mathlib.Omega.{arith}
 use lib.ListN.{length, take, drop, getD, set, length-append}
-use lib.Seq.{drop-cons}
+use lib.Seq.{drop-cons, drop-drop, drop-append-add, sets}
 use borrow.Rule.Slice.PartMut.{putMid}
 use Rattle.format.specs.Bytes.{part, over}
 use Rattle.format.proofs.Bytes.{part-length}
@@ -52,6 +52,14 @@ pieces-part s i n at step size (suc k) h hk =
     let e : i + (at + k * step) ≡ at + i + k * step = omega arith in
     ap₂ _++_ (pieces-part s i n at step size k h (omega arith)) (part-part s i n (at + k * step) size (omega arith) ∙ rw e refl)
 
+-- n pieces behind k of them
+pieces-append : (s : List ℕ) (at step size k n : ℕ) → pieces s at step size k ++ pieces s (at + k * step) step size n ≡ pieces s at step size (k + n)
+unfolding pieces
+pieces-append s at step size k zero = rw (append-nil, add-zero)
+pieces-append s at step size k (suc n) =
+    let e : at + k * step + n * step ≡ at + (k + n) * step = rw add-mul (omega arith) in
+    rw (← append-assoc, pieces-append s at step size k n, e, add-suc) refl
+
 -- pieces with nothing between them are one
 pub pieces-joined : (s : List ℕ) (at size k : ℕ) → pieces s at size size k ≡ part s at (k * size)
 unfolding pieces part
@@ -66,15 +74,51 @@ pieces-once s d q w step k e h eq =
 
 -- ---- pieces of one byte
 
--- the byte of d behind k of them, replaced by the next
-pub byte-more : (s d₀ d : List ℕ) (at step k v : ℕ) → at + 1 ≤ step → k * step + step ≤ length s → k < length d₀ → d ≡ over (pieces s at step 1 k) d₀
-    → v ≡ getD s (at + k * step) 0 → set d k v ≡ over (pieces s at step 1 (k + 1)) d₀
-unfolding pieces part
-byte-more s d₀ d at step k v h hk hd ed ev =
-    let l : length (pieces s at step 1 k) ≡ k = pieces-length s at step 1 h k (omega arith) ∙ mul-one k in
-    let one : part s (at + k * step) 1 ≡ v ∷ [] = rw (drop-cons s (at + k * step) 0 (omega arith), ev) refl in
-    rw (ed, add-one)
-    (over-stored (pieces s at step 1 k) (v ∷ []) d₀ k l (omega arith) ∙ ap (λ (x : List ℕ). over (pieces s at step 1 k ++ x) d₀) (sym one))
+one : (s : List ℕ) (i : ℕ) → i < length s → part s i 1 ≡ getD s i 0 ∷ []
+unfolding part
+one s i h = rw (drop-cons s i 0 h) refl
+
+pub four-pieces : (s : List ℕ) (from step : ℕ) → from + 3 * step < length s
+    → pieces s from step 1 4 ≡ getD s from 0 ∷ (getD s (from + step) 0 ∷ (getD s (from + 2 * step) 0 ∷ (getD s (from + 3 * step) 0 ∷ [])))
+unfolding pieces
+four-pieces s from step h =
+    let e₀ : from + 0 * step ≡ from = omega arith in
+    let e₁ : from + 1 * step ≡ from + step = omega arith in
+    rw (e₀, e₁, one s from (omega arith), one s (from + step) (omega arith), one s (from + 2 * step) (omega arith), one s (from + 3 * step) (omega arith)) refl
+
+module _ (s : List ℕ) (at step : ℕ) (apart : at + 1 ≤ step) where
+  so-many : (k : ℕ) → k * step ≤ length s → length (pieces s at step 1 k) ≡ k
+  so-many k h = pieces-length s at step 1 apart k h ∙ mul-one k
+
+  -- n of them over the first k of them
+  pub over-first : (d : List ℕ) (k n : ℕ) → k ≤ n → n * step ≤ length s
+      → over (pieces s at step 1 n) (over (pieces s at step 1 k) d) ≡ over (pieces s at step 1 n) d
+  unfolding over
+  over-first d k n h hn =
+      let hk : k * step ≤ length s = le-trans (mul-le-mul-right step h) hn in
+      let p = pieces s at step 1 k in
+      let e : n ≡ length p + (n - k) = omega (arith, so-many k hk) in
+      ap (λ (l : List ℕ). pieces s at step 1 n ++ l)
+      (rw (so-many n hn, e) (drop-append-add p (drop (length p) d) (n - k) ∙ drop-drop (n - k) (length p) d))
+
+module _ (s d₀ d : List ℕ) (at step k : ℕ) (apart : at + 1 ≤ step) (before : d ≡ over (pieces s at step 1 k) d₀) where
+  -- the byte of d behind k of them, replaced by the next
+  pub byte-more : (v : ℕ) → k * step + step ≤ length s → k < length d₀ → v ≡ getD s (at + k * step) 0 → set d k v ≡ over (pieces s at step 1 (k + 1)) d₀
+  unfolding pieces
+  byte-more v hk hd ev =
+      let next : part s (at + k * step) 1 ≡ v ∷ [] = rw ev (one s (at + k * step) (omega arith)) in
+      let p = pieces s at step 1 k in
+      rw (before, add-one)
+      (over-stored p (v ∷ []) d₀ k (so-many s at step apart k (omega arith)) (omega arith) ∙ ap (λ (x : List ℕ). over (p ++ x) d₀) (sym next))
+
+  -- the four bytes, replaced by the next four
+  pub bytes-more : (q : List ℕ) (from : ℕ) → k * step + 4 * step ≤ length s → k + 4 ≤ length d₀ → from ≡ at + k * step → q ≡ sets d k (pieces s from step 1 4)
+      → q ≡ over (pieces s at step 1 (k + 4)) d₀
+  bytes-more q from hk hd ef eq =
+      let l : length (pieces s from step 1 4) ≡ 4 = rw (four-pieces s from step (omega arith)) refl in
+      let joined : pieces s at step 1 k ++ pieces s from step 1 4 ≡ pieces s at step 1 (k + 4) = rw ef (pieces-append s at step 1 k 4) in
+      eq ∙ rw before (over-stored (pieces s at step 1 k) (pieces s from step 1 4) d₀ k (so-many s at step apart k (omega arith)) (omega (arith, l)))
+      ∙ ap (λ (x : List ℕ). over x d₀) joined
 
 -- the byte of a pair at `at`, by a shift
 pub half-at : (a b at : ℕ) → a < 256 → b < 256 → at < 2 → (a + 256 * b) / 2 ^ (8 * at) % 256 ≡ getD (a ∷ (b ∷ [])) at 0

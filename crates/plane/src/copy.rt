@@ -3,6 +3,7 @@ ghost use mathlib.Core.Path.{_≡_};
 ghost use mathlib.Core.List.{[], _∷_};
 ghost use Prim.Native.Nat.{_+_, _*_, _≤_, _<_};
 ghost use lib.ListN.{length, getD};
+ghost use lib.Seq.{sets};
 ghost use Rattle.format.specs.Bytes.{over};
 ghost use Rattle.plane.specs.Pieces.{pieces, rows};
 ghost use Rattle.plane.specs.Parts.{Alike};
@@ -119,12 +120,29 @@ fn copy_pieces(src: &[u8], dst: &mut [u8], at: usize, step: usize, size: usize, 
     }
 }
 
-// Copies `count` bytes, at `at`, at + step, .. in src, to the front of dst. Each place is a product: none waits for the one before it.
+// Copies four bytes, at `from`, from + step, .. in src, to the place `to` of dst: none waits for the place of the one before it.
+fn copy_four(src: &[u8], dst: &mut [u8], from: usize, step: usize, to: usize)
+    requires { ⌜ (from + 3 * step < length (now src)) × (to + 4 ≤ length (now dst)) ⌝ }
+    ensures { λ _. ⌜ now (dst .exit) ≡ sets (now (dst .entry)) to (pieces (now (src .entry)) from step 1 4) ⌝ }
+{
+    dst[to] = src[from];
+    dst[to + 1] = src[from + step];
+    dst[to + 2] = src[from + 2 * step];
+    dst[to + 3] = src[from + 3 * step];
+}
+
+// Copies `count` bytes, at `at`, at + step, .. in src, to the front of dst: four at a time, and then the rest.
 fn copy_singles(src: &[u8], dst: &mut [u8], at: usize, step: usize, count: usize)
     requires { ⌜ (at + 1 ≤ step) × (count * step ≤ length (now src)) × (count ≤ length (now dst)) ⌝ }
     ensures { λ _. ⌜ now (dst .exit) ≡ over (pieces (now (src .entry)) at step 1 count) (now (dst .entry)) ⌝ }
 {
     let mut k = 0;
+    let mut from = at;
+    while 4 <= count - k {
+        copy_four(src, dst, from, step, k);
+        from += 4 * step;
+        k += 4;
+    }
     while k < count {
         dst[k] = src[at + k * step];
         k += 1;
