@@ -1,5 +1,5 @@
 -- Laws of two names compared: the answer from what is known of their units, the rules, and that units further on change nothing. Assumes nothing.
-use Prim.Native.Nat.{ℕ, zero, suc, _+_, _*_, _≤_, _<_}
+use Prim.Native.Nat.{ℕ, zero, suc, _+_, _-_, _*_, _≤_, _<_}
 use mathlib.Core.Path.{_≡_, refl, sym, ap, _∙_}
 use mathlib.Core.Bool.{Bool, true, false, cond, true≢false}
 use mathlib.Core.Logic.{_↔_}
@@ -12,13 +12,13 @@ use lib.Seq.{ext-getD}
 use borrow.Author.Count.{below-more}
 use borrow.Author.Tests.{eqb-true, eqb-false, eq-eqb, ne-eqb}
 use Rattle.format.specs.Bytes.{leAt, same}
-use Rattle.format.specs.Text.{highSurrogate, replaced, lossy}
+use Rattle.format.specs.Text.{units, highSurrogate, replaced, lossy}
 use Rattle.format.specs.Comparison.{commonUnits, differ, alike, comparison, compared}
 use Rattle.format.specs.Grammar.Text.{High}
 use Rattle.format.specs.Grammar.Comparison.{Tells, unequal, equal, differing, NamesTell, Looked, within, ahead, Reaches}
 use Rattle.format.specs.declared.Comparison.{Comparison}
 use Rattle.format.proofs.Tests.{true-same, false-same}
-use Rattle.format.proofs.Text.{units-at, replaced-plain, lossy-at, length-lossy}
+use Rattle.format.proofs.Text.{Stand, length-units, units-at, replaced-plain, lossy-at, length-lossy}
 use Rattle.format.proofs.Surrogates.{true-high, mended-lossy}
 
 -- ---- the units that two names begin with alike
@@ -319,3 +319,15 @@ pub reaches-after : (s : List ℕ) (at n i : ℕ) → i < n → Reaches s at n (
 reaches-after s at n i h r x g =
     let e = units-at n s at i h in
     omega (arith, r (suc i) (omega arith) (ahead {k = i} (omega arith) (rw e x)))
+
+-- ---- names that begin alike as they stand
+
+-- each of those units but the last is replaced alike, and the last too where what follows it is
+pub front-alike : (a b : List ℕ) (c : ℕ) → length b ≡ length a → c ≤ length a → Alike b a c → Alike (lossy b) (lossy a) (c - 1)
+front-alike a b zero e h f k g = absurd (omega arith)
+front-alike a b (suc c) e h f k g = lossy-looked a b c e (omega arith) (λ j l. f j (omega (arith, looked-most a c j l))) k (omega arith)
+
+pub stand-alike : (s : List ℕ) (at from n c : ℕ) → c ≤ n → Stand s at from c → Alike (lossy (units n s at)) (lossy (units n s from)) (c - 1)
+stand-alike s at from n c h f =
+    front-alike (units n s from) (units n s at) c (length-units n s at ∙ sym (length-units n s from)) (rw length-units h) λ k g.
+    units-at n s at k (omega arith) ∙ (f k g ∙ sym (units-at n s from k (omega arith)))

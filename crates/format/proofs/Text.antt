@@ -5,6 +5,7 @@ use mathlib.Core.Bool.{Bool, true, false, not, _&&_, _||_, cond, or-false}
 use mathlib.Core.List.{List, [], _∷_}
 use native.Mathlib.Omega.{arith}
 use native.Mathlib.Numerals.{add-one}
+use native.Mathlib.Nat.{add-assoc}
 use lib.Dec.{eqb, leb, ltb}
 use lib.ListN.{length, getD, List·getD-eq-default}
 use borrow.Author.Tests.{eqb-true, eqb-false, eq-eqb, ne-eqb, le-leb, lt-leb, le-ltb, leb-true, leb-false, ltb-true, ltb-false}
@@ -147,3 +148,28 @@ module _ (n : ℕ) (s : List ℕ) (i k b : ℕ) (h : k < n) (l : b < 0xD800) whe
       go : (t : Bool) → eqb b (leAt 2 s (i + 2 * k)) ≡ t → t ≡ eqb b (getD (lossy (units n s i)) k 0)
       go true q = sym (eq-eqb _ _ (plain-name-unit (eqb-true _ _ q)))
       go false q = sym (ne-eqb _ _ λ e. eqb-false _ _ q (name-unit-plain e))
+
+-- ---- two names as they stand, unit by unit
+
+-- the first c units of both are the same
+abbrev pub Stand : List ℕ → ℕ → ℕ → ℕ → Type 0
+Stand s at from c = (k : ℕ) → k < c → leAt 2 s (at + 2 * k) ≡ leAt 2 s (from + 2 * k)
+
+le-two : (s : List ℕ) (i j : ℕ) → getD s i 0 ≡ getD s j 0 → getD s (i + 1) 0 ≡ getD s (j + 1) 0 → leAt 2 s i ≡ leAt 2 s j
+unfolding leAt
+le-two s i j p q = omega (arith, p, rw (add-one, add-one) at q)
+
+-- n units more where their bytes are
+pub stand-more : (s : List ℕ) (at from i n : ℕ) → Stand s at from i
+    → ((k : ℕ) → k < 2 * n → getD s (at + 2 * i + k) 0 ≡ getD s (from + 2 * i + k) 0) → Stand s at from (i + n)
+stand-more s at from i n f g k h = go (ltb k i) refl
+  where
+    byte : (j l : ℕ) → j < 2 * n → 2 * i + j ≡ l → getD s (at + l) 0 ≡ getD s (from + l) 0
+    byte j l b e = rw (← e, ← add-assoc, ← add-assoc) (g j b)
+
+    go : (t : Bool) → ltb k i ≡ t → leAt 2 s (at + 2 * k) ≡ leAt 2 s (from + 2 * k)
+    go true q = f k (ltb-true k i q)
+    go false q =
+        let o = ltb-false k i q in
+        le-two s _ _ (byte (2 * (k - i)) (2 * k) (omega arith) (omega arith))
+        (rw (add-assoc, add-assoc) (byte (2 * (k - i) + 1) (2 * k + 1) (omega arith) (omega arith)))
