@@ -69,8 +69,8 @@ fn same16(s: &[u8], a: usize, b: usize) -> bool
     same
 }
 
-// How many units both names of n units begin with alike, as they stand and by 8: the one after may be alike too.
-fn common_eights(s: &[u8], at: usize, from: usize, n: usize) -> usize
+// How many units two names of n units begin with alike as they stand, counted by 8: those after may be alike too.
+fn common(s: &[u8], at: usize, from: usize, n: usize) -> usize
     requires { ⌜ (at + 2 * n ≤ length (now s)) × (from + 2 * n ≤ length (now s)) ⌝ }
     ensures { λ r. ⌜ (r ≤ n) × ((k : ℕ) → k < r → leAt 2 (now (s .entry)) (at + 2 * k) ≡ leAt 2 (now (s .entry)) (from + 2 * k)) ⌝ }
 {
@@ -80,21 +80,6 @@ fn common_eights(s: &[u8], at: usize, from: usize, n: usize) -> usize
             return i;
         }
         i += 8;
-    }
-    i
-}
-
-// How many units both names of n units begin with alike, as they stand.
-fn common(s: &[u8], at: usize, from: usize, n: usize) -> usize
-    requires { ⌜ (at + 2 * n ≤ length (now s)) × (from + 2 * n ≤ length (now s)) ⌝ }
-    ensures { λ r. ⌜ (r ≤ n) × ((k : ℕ) → k < r → leAt 2 (now (s .entry)) (at + 2 * k) ≡ leAt 2 (now (s .entry)) (from + 2 * k)) ⌝ }
-{
-    let mut i = common_eights(s, at, from, n);
-    while i < n {
-        if unit_at(s, at, i) != unit_at(s, from, i) {
-            return i;
-        }
-        i += 1;
     }
     i
 }
@@ -122,13 +107,20 @@ fn same_from(s: &[u8], at: usize, n: usize, from: usize, first: usize) -> bool
     true
 }
 
-// Whether the name of n units at `at` and the one of m units at `from` are the same. Surrogates are looked at only from the last unit before
-// the first that differs as it stands: that one may be half of a pair.
+// Whether the name of n units at `at` and the one of m units at `from` are the same. The first unit tells most apart; of others surrogates are looked at
+// only from the last of the units that stand alike: it may be half of a pair.
 pub fn same_name(s: &[u8], at: usize, n: usize, from: usize, m: usize) -> bool
     requires { ⌜ (at + 2 * n ≤ length (now s)) × (from + 2 * m ≤ length (now s)) ⌝ }
     ensures { λ r. ⌜ r ≡ same (lossy (units n (now (s .entry)) at)) (lossy (units m (now (s .entry)) from)) ⌝ }
 {
     if m != n {
+        return false;
+    }
+    if n == 0 {
+        return true;
+    }
+    let u = unit_at(s, at, 0);
+    if (u < 0xD800) & (u != unit_at(s, from, 0)) {
         return false;
     }
     let c = common(s, at, from, n);
