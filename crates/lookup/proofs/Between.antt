@@ -2,11 +2,14 @@
 use Prim.Native.Nat.{ℕ, zero, suc, _+_, _-_, _≤_, _<_}
 use mathlib.Core.Path.{_≡_, refl, sym, ap, _∙_}
 use mathlib.Core.Bool.{Bool, true, false, cond}
+use mathlib.Core.Option.{some, none}
 use mathlib.Core.List.{List, [], _∷_, _++_}
+use native.Mathlib.Decide.{decLt}
 use native.Mathlib.Nat.{zero-add, add-zero, sub-zero}
 use native.Mathlib.Numerals.{add-one}
 use native.Mathlib.Omega.{arith}
-use lib.ListN.{length}
+use lib.ListN.{length, getElem?}
+use Rattle.format.proofs.Answers.{none≢some}
 use Rattle.lookup.specs.Table.{passing, between}
 
 pub nil-not : {A : Type 0} (xs : List ℕ) (k : ℕ) (ys : List ℕ) → [] ≡ xs ++ k ∷ ys → A
@@ -119,3 +122,49 @@ module _ (f : ℕ → Bool) where
   pub between-split : (n k : ℕ) (xs ys : List ℕ) → between f 0 n ≡ xs ++ k ∷ ys → Picked f 0 n k ys
   unfolding between
   between-split n k xs ys h = pick-split 0 (n - 0) n k xs ys (omega arith) h
+
+  -- ---- the first
+
+  -- j is the first from i on and below n
+  pub record Foremost (i n j : ℕ) : Type 0 where
+    pub passes : f j ≡ true
+    pub low : i ≤ j
+    pub high : j < n
+    pub before : (k : ℕ) → i ≤ k → k < j → f k ≡ false
+
+  foremost : (i m j : ℕ) → some j ≡ getElem? (passing f i m) 0 → Foremost i (i + m) j
+  unfolding passing
+  foremost i zero j h = absurd (let z : _≡_ {A = ℕ} 0 1 = cc in omega arith)
+  foremost i (suc m) j h = go (λ g. foremost (suc i) m j g) (f i) refl h
+    where
+      go : (some j ≡ getElem? (passing f (suc i) m) 0 → Foremost (suc i) (suc i + m) j) → (b : Bool) → f i ≡ b
+          → some j ≡ getElem? (cond b (i ∷ passing f (suc i) m) (passing f (suc i) m)) 0 → Foremost i (i + suc m) j
+      go ih true q h =
+          let x : j ≡ i = cc in
+          record { passes = rw x q; low = omega arith; high = omega arith; before = λ k a b. absurd (omega arith) }
+      go ih false q h =
+          let w = ih h in
+          record { passes = w .passes; low = omega (arith, w .low); high = omega (arith, w .high); before = λ k a b. at k a b w (decLt i k) }
+        where
+          at : (k : ℕ) → i ≤ k → k < j → Foremost (suc i) (suc i + m) j → Dec (i < k) → f k ≡ false
+          at k a b w (yes y) = w .before k (omega arith) b
+          at k a b w (no y) = let x : k ≡ i = omega (arith, y) in rw x q
+
+  pub between-first : (i n j : ℕ) → i ≤ n → some j ≡ getElem? (between f i n) 0 → Foremost i n j
+  unfolding between
+  between-first i n j l h = let x : i + (n - i) ≡ n = omega arith in rw x at (foremost i (n - i) j h)
+
+  passing-empty : (i m : ℕ) → none ≡ getElem? (passing f i m) 0 → (k : ℕ) → i ≤ k → k < i + m → f k ≡ false
+  unfolding passing
+  passing-empty i zero h k a b = absurd (omega arith)
+  passing-empty i (suc m) h k a b = go (λ g y. passing-empty (suc i) m g k y (omega arith)) (f i) refl h (decLt i k)
+    where
+      go : (none ≡ getElem? (passing f (suc i) m) 0 → suc i ≤ k → f k ≡ false) → (c : Bool) → f i ≡ c
+          → none ≡ getElem? (cond c (i ∷ passing f (suc i) m) (passing f (suc i) m)) 0 → Dec (i < k) → f k ≡ false
+      go ih true q h d = absurd (none≢some h)
+      go ih false q h (yes y) = ih h (omega arith)
+      go ih false q h (no y) = let x : k ≡ i = omega (arith, y) in rw x q
+
+  pub between-empty : (i n : ℕ) → none ≡ getElem? (between f i n) 0 → (k : ℕ) → i ≤ k → k < n → f k ≡ false
+  unfolding between
+  between-empty i n h k a b = passing-empty i (n - i) h k a (omega arith)

@@ -1,7 +1,7 @@
 -- Laws of the value of a place, as the code finds it, and of a walk over child levels. Assumes nothing.
 use Prim.Native.Nat.{ℕ, zero, suc, _+_, _≤_, _<_}
 use mathlib.Core.Path.{_≡_, refl, sym, ap, _∙_, subst}
-use mathlib.Core.Bool.{Bool, true, false}
+use mathlib.Core.Bool.{true, false}
 use mathlib.Core.Option.{Option, none, some}
 use mathlib.Core.List.{List, [], _∷_}
 use native.Mathlib.Numerals.{add-one}
@@ -15,11 +15,12 @@ use Rattle.format.specs.Values.{level, list, Slot, unnamed, nameOf, slotsOf, fi
 use Rattle.format.specs.declared.Entry.{Entry}
 use Rattle.lookup.specs.Table.{firsts, Ordered, Run, lastNamed}
 use Rattle.lookup.specs.Values.{kids, headOf, elementsOf, meaning, fieldMeaning}
-use Rattle.lookup.specs.Walks.{leads, leadsIn, AllLead, namedOr, slotFor, slotAt, slotsAt, placeLevels, restOf, Standing, Walk, leftOf, Behind, NextOf}
+use Rattle.lookup.specs.Walks.{leads, leadsIn, Knows, namedOr, slotFor, slotAt, slotsAt, placeLevels, restOf, Standing, Walk, leftOf, Behind, NextOf}
 use Rattle.lookup.specs.declared.ClxValue.{ClxValue}
 use Rattle.lookup.specs.declared.ClxValue.the-variants as clx
 use Rattle.lookup.specs.declared.Field.{Field}
 use Rattle.lookup.specs.declared.Field.the-variants.{Is, Absent}
+use Rattle.lookup.specs.declared.Known.{Known}
 use Rattle.lookup.specs.declared.Next.{Next}
 use Rattle.lookup.specs.declared.Turn.{Turn}
 use Rattle.lookup.specs.declared.Turn.the-variants as turn
@@ -192,7 +193,7 @@ module _ (s : List ℕ) (e : ℕ → Entry) (n : ℕ) (f : Field) where
   unfolding childLevels
   walk-absent h = record { good = tt; rest = ap (childLevels s (firsts n e)) (absent-of s (firsts n e) f h) }
 
-  pub walk-level : (v : ClxValue) (i r : ℕ) (b : Bool) → f ≡ Is v → v ≡ clx.Level i → Ordered e n → Run e n (i + 1) r → (b ≡ true → AllLead s e (i + 1) r)
+  pub walk-level : (v : ClxValue) (i r : ℕ) (b : Known) → f ≡ Is v → v ≡ clx.Level i → Ordered e n → Run e n (i + 1) r → Knows s e (i + 1) r b
       → Walk s e n (childLevels s (firsts n e) (fieldMeaning s (firsts n e) f)) (turn.Places (i + 1) r b (i + 1))
   unfolding childLevels
   walk-level v i r b h k o q a =
@@ -234,7 +235,7 @@ module _ (s : List ℕ) (e : ℕ → Entry) (n p k : ℕ) where
   behind-next i l h = record { walk = record { good = (l, λ s. sym (h s)); rest = refl }; less = omega arith }
 
 module _ (s : List ℕ) (e : ℕ → Entry) (n : ℕ) (t : Turn) where
-  pub standing-places : (p r : ℕ) (b : Bool) (i : ℕ) → t ≡ turn.Places p r b i → Standing s e n t → Run e n p r × (p ≤ i) × (b ≡ true → AllLead s e p r)
+  pub standing-places : (p r : ℕ) (b : Known) (i : ℕ) → t ≡ turn.Places p r b i → Standing s e n t → Run e n p r × (p ≤ i) × Knows s e p r b
   standing-places p r b i h g = subst (Standing s e n) h g
 
   pub standing-elements : (p k i : ℕ) → t ≡ turn.Elements p k i → Standing s e n t

@@ -1,5 +1,5 @@
 -- The places of a level, and what a walk over child levels has still before it.
-use Prim.Native.Nat.{ℕ, _+_, _-_, _%_, _≤_, _<_}
+use Prim.Native.Nat.{ℕ, _+_, _-_, _/_, _%_, _^_, _≤_, _<_}
 use mathlib.Core.Path.{_≡_}
 use mathlib.Core.Bool.{Bool, true, false, _&&_}
 use mathlib.Core.Option.{Option, none, some}
@@ -12,6 +12,7 @@ use Rattle.format.specs.declared.Entry.{Entry}
 use Rattle.lookup.specs.Table.{firsts, between, lastNamed, Run}
 use Rattle.lookup.specs.Hash.{hashOf, Marked}
 use Rattle.lookup.specs.Values.{unnamedIn, elementsOf}
+use Rattle.lookup.specs.declared.Known.{Known}
 use Rattle.lookup.specs.declared.Turn.{Turn}
 use Rattle.lookup.specs.declared.Turn.the-variants as turn
 use Rattle.lookup.specs.declared.Next.{Next}
@@ -27,22 +28,30 @@ isNone (some i) = false
 unfoldable pub leads : List ℕ → (ℕ → Entry) → ℕ → ℕ → Bool
 leads s e p i = eqb (e i .parent) p && isNone (lastNamed s e p (nameOf s (e i)) i)
 
--- entry k, where it is a child of p, is the first of its name
+-- entry k, where it is a child of p with a name, is the first of it
 abbrev pub Leading : List ℕ → (ℕ → Entry) → ℕ → ℕ → Type 0
-Leading s e p k = e k .parent ≡ p → leads s e p k ≡ true
+Leading s e p k = e k .parent ≡ p → (e k .units ≡ 0 → ⊥) → leads s e p k ≡ true
 
--- every child of p before r is the first of its name
-abbrev pub AllLead : List ℕ → (ℕ → Entry) → ℕ → ℕ → Type 0
-AllLead s e p r = (k : ℕ) → p ≤ k → k < r → Leading s e p k
-
--- every such child whose name's number leaves `part` where it is divided by `parts`
+-- every such child before r whose name's number leaves `part` where it is divided by `parts`
 abbrev pub PartLeads : List ℕ → (ℕ → Entry) → ℕ → ℕ → ℕ → ℕ → Type 0
 PartLeads s e p r parts part = (k : ℕ) → p ≤ k → k < r → hashOf (nameOf s (e k)) % parts ≡ part → Leading s e p k
 
 -- the same of those before entry i, and the names have left their marks
 pub record Seen (s : List ℕ) (e : ℕ → Entry) (p parts part i : ℕ) (marks : List ℕ) : Type 0 where
   pub leading : PartLeads s e p i parts part
-  pub marked : (k : ℕ) → p ≤ k → k < i → hashOf (nameOf s (e k)) % parts ≡ part → e k .parent ≡ p → Marked marks (hashOf (nameOf s (e k)))
+  pub marked : (k : ℕ) → p ≤ k → k < i → hashOf (nameOf s (e k)) % parts ≡ part → e k .parent ≡ p → (e k .units ≡ 0 → ⊥)
+      → Marked marks (hashOf (nameOf s (e k)))
+
+-- bit number k of a number
+abbrev pub bit : ℕ → ℕ → ℕ
+bit n k = n / 2 ^ k % 2
+
+-- what is known of a level's names: in each part whose bit is set no name comes twice, and the first child without a name
+pub record Knows (s : List ℕ) (e : ℕ → Entry) (p r : ℕ) (w : Known) : Type 0 where
+  pub some : 0 < w .parts
+  pub few : w .parts ≤ 64
+  pub clean : (k : ℕ) → bit (w .clean) k ≡ 1 → PartLeads s e p r (w .parts) k
+  pub first : (i : ℕ) → p ≤ i → i < r → e i .parent ≡ p → e i .units ≡ 0 → eqb i (w .first) ≡ leads s e p i
 
 -- the places from entry i on, of n entries
 unfoldable pub leadsIn : List ℕ → (ℕ → Entry) → ℕ → ℕ → ℕ → List ℕ
@@ -74,13 +83,13 @@ placeLevels s e n p i = levelsIn s (firsts n e) (slotsAt s e n p (leadsIn s e p 
 
 -- the child levels that a walk has still before it
 abbrev pub restOf : List ℕ → (ℕ → Entry) → ℕ → Turn → List ℕ
-restOf s e n (turn.Places p r plain i) = placeLevels s e n p i
+restOf s e n (turn.Places p r w i) = placeLevels s e n p i
 restOf s e n (turn.Elements p k i) = levelsOf s (firsts n e) (drop k (elementsOf s (firsts n e) p))
 restOf s e n turn.Over = []
 
--- places are looked for in the level's run, in a plain one every child is a place; entry i is element number k, whatever the file
+-- places are looked for in the level's run, of whose names something is known; entry i is element number k, whatever the file
 abbrev pub Standing : List ℕ → (ℕ → Entry) → ℕ → Turn → Type 0
-Standing s e n (turn.Places p r plain i) = Run e n p r × (p ≤ i) × (plain ≡ true → AllLead s e p r)
+Standing s e n (turn.Places p r w i) = Run e n p r × (p ≤ i) × Knows s e p r w
 Standing s e n (turn.Elements p k i) = (i < n) × ((s : List ℕ) → getElem? (elementsOf s (firsts n e) p) k ≡ some i)
 Standing s e n turn.Over = Unit
 
@@ -91,7 +100,7 @@ pub record Walk (s : List ℕ) (e : ℕ → Entry) (n : ℕ) (l : List ℕ) (t :
 
 -- how many elements a walk has still before it
 abbrev pub leftOf : List ℕ → (ℕ → Entry) → ℕ → Turn → ℕ
-leftOf s e n (turn.Places p r plain i) = 0
+leftOf s e n (turn.Places p r w i) = 0
 leftOf s e n (turn.Elements p k i) = length (elementsOf s (firsts n e) p) - k
 leftOf s e n turn.Over = 0
 

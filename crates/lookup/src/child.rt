@@ -17,9 +17,9 @@ use crate::entry::end_of;
 use crate::list::count_elements;
 use crate::list::first_element;
 use crate::list::next_element;
+use crate::parts::know;
 use crate::place::count_places;
 use crate::place::next_place;
-use crate::plain::all_lead;
 use crate::value::level_at;
 
 // How many elements or entries a field has.
@@ -52,11 +52,11 @@ pub fn children(file: &[u8], table: &[u8], used: usize, f: Field) -> Turn
         ClxValue::Level(i) => {
             let parent = i + 1;
             let end = end_of(table, used, parent);
-            let plain = all_lead(file, table, used, parent, end);
+            let known = know(file, table, used, parent, end);
             Turn::Places {
                 parent,
                 end,
-                plain,
+                known,
                 at: parent,
             }
         }
@@ -104,10 +104,10 @@ pub fn next_child(file: &[u8], table: &[u8], used: usize, t: Turn) -> Next
             Turn::Places {
                 parent,
                 end,
-                plain,
+                known,
                 at,
             } => {
-                return next_place(file, table, used, parent, end, plain, at);
+                return next_place(file, table, used, parent, end, known, at);
             }
             Turn::Elements { parent, before, at } => {
                 let rest = after_element(table, used, parent, before, at);

@@ -8,8 +8,8 @@ mod hash;
 pub mod level;
 pub mod list;
 pub mod named;
+mod parts;
 pub mod place;
-mod plain;
 pub mod value;
 
 // An entry that a search found.
@@ -37,13 +37,21 @@ pub enum Field {
     Absent,
 }
 
+// What is known of the names in a level, which fall into parts: bit k of `clean` says that in part k no name comes twice. `first` is the
+// first child without a name.
+pub struct Known {
+    pub parts: u64,
+    pub clean: u64,
+    pub first: usize,
+}
+
 // Where a walk over child levels stands.
 pub enum Turn {
-    // in a level whose run ends at `end`: at the places from entry `at` on; in a plain one no name comes twice
+    // in a level whose run ends at `end`: at the places from entry `at` on
     Places {
         parent: usize,
         end: usize,
-        plain: bool,
+        known: Known,
         at: usize,
     },
     // in a list: at element number `before`, which is entry `at`

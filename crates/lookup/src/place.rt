@@ -1,6 +1,5 @@
 // The places of a level: its children that are the first of their name.
 ghost use mathlib.Core.Path.{_≡_};
-ghost use mathlib.Core.Bool.{true};
 ghost use Prim.Native.Nat.{ℕ, _≤_, _<_};
 ghost use mathlib.Core.List.{List};
 ghost use mathlib.Core.Option.{some};
@@ -8,17 +7,18 @@ ghost use lib.ListN.{length};
 ghost use Rattle.format.specs.Values.{nameOf, slotsOf, slotValue, unnamed, asLevel};
 ghost use Rattle.lookup.specs.Table.{entryIn, entriesIn, Rows, Holds, Run, found, Within, lastNamed};
 ghost use Rattle.lookup.specs.Values.{kids};
-ghost use Rattle.lookup.specs.Walks.{leads, Leading, AllLead, slotAt, placeLevels, NextOf};
+ghost use Rattle.lookup.specs.Walks.{leads, Knows, slotAt, placeLevels, NextOf};
 use crate::Found;
+use crate::Known;
 use crate::Next;
 use crate::Turn;
 use crate::entry::after;
 use crate::entry::end_of;
 use crate::entry::entry_at;
-use crate::entry::parent_at;
 use crate::list::next_unnamed;
 use crate::named::last_alike;
-use crate::plain::all_lead;
+use crate::parts::alone;
+use crate::parts::know;
 use crate::value::level_at;
 
 // Whether entry i of a level's run is a child, and the first of its name.
@@ -47,13 +47,28 @@ pub fn is_place(file: &[u8], table: &[u8], used: usize, parent: usize, i: usize)
     }
 }
 
-// The same, where `plain` says that every child is the first of its name.
-fn leads_at(file: &[u8], table: &[u8], used: usize, parent: usize, plain: bool, i: usize) -> bool
-    requires { ⌜ Holds (now file) (now table) used × (parent ≤ i) × (i < used) × (plain ≡ true → Leading (now file) (entryIn (now table)) parent i) ⌝ }
+// The same, by what is known of the level.
+fn leads_at(
+    file: &[u8],
+    table: &[u8],
+    used: usize,
+    parent: usize,
+    end: usize,
+    known: Known,
+    i: usize,
+) -> bool
+    requires { ⌜ Holds (now file) (now table) used × (parent ≤ i) × (i < end) × (end ≤ used) × Knows (now file) (entryIn (now table)) parent end known ⌝ }
     ensures { λ r. ⌜ r ≡ leads (now (file .entry)) (entryIn (now (table .entry))) parent i ⌝ }
 {
-    if plain {
-        return parent_at(table, i) == parent;
+    let e = entry_at(table, i);
+    if e.parent as usize != parent {
+        return false;
+    }
+    if e.units == 0 {
+        return i == known.first;
+    }
+    if alone(file, table, known, i) {
+        return true;
     }
     is_place(file, table, used, parent, i)
 }
@@ -64,11 +79,11 @@ pub fn count_places(file: &[u8], table: &[u8], used: usize, parent: usize) -> u6
     ensures { λ r. ⌜ r ≡ length (slotsOf (now (file .entry)) (entriesIn (now (table .entry)) used) parent) ⌝ }
 {
     let end = end_of(table, used, parent);
-    let plain = all_lead(file, table, used, parent, end);
+    let known = know(file, table, used, parent, end);
     let mut n: u64 = 0;
     let mut i = parent;
     while i < end {
-        if leads_at(file, table, used, parent, plain, i) {
+        if leads_at(file, table, used, parent, end, known, i) {
             n += 1;
         }
         i = after(table, used, i);
@@ -112,18 +127,18 @@ fn last_of(file: &[u8], table: &[u8], used: usize, parent: usize, end: usize, i:
     )
 }
 
-// The level that the value of a place is: the last value of its name. Where `plain` says that every child is the first of its name, its own.
+// The level that the value of a place is: the last value of its name, which is its own where no other child has the name.
 pub fn place_level(
     file: &[u8],
     table: &[u8],
     used: usize,
     parent: usize,
     end: usize,
-    plain: bool,
+    known: Known,
     i: usize,
 ) -> Found
     requires { ⌜ Holds (now file) (now table) used × Run (entryIn (now table)) used parent end × (parent ≤ i) × (i < end)
-        × (entryIn (now table) i .parent ≡ parent) × (plain ≡ true → AllLead (now file) (entryIn (now table)) parent end) ⌝ }
+        × (entryIn (now table) i .parent ≡ parent) × Knows (now file) (entryIn (now table)) parent end known ⌝ }
     ensures { λ r. ⌜ (found r ≡ asLevel (some (slotValue (now (file .entry)) (entriesIn (now (table .entry)) used)
         (slotAt (now (file .entry)) (entryIn (now (table .entry))) used parent i)))) × Within used r ⌝ }
 {
@@ -131,7 +146,7 @@ pub fn place_level(
     if e.units == 0 {
         return unnamed_level(table, used, parent);
     }
-    if plain {
+    if alone(file, table, known, i) {
         return level_at(table, used, i);
     }
     match last_of(file, table, used, parent, end, i) {
@@ -147,26 +162,26 @@ pub fn next_place(
     used: usize,
     parent: usize,
     end: usize,
-    plain: bool,
+    known: Known,
     from: usize,
 ) -> Next
     requires { ⌜ Holds (now file) (now table) used × Run (entryIn (now table)) used parent end × (parent ≤ from)
-        × (plain ≡ true → AllLead (now file) (entryIn (now table)) parent end) ⌝ }
+        × Knows (now file) (entryIn (now table)) parent end known ⌝ }
     ensures { λ r. ⌜ NextOf (now (file .entry)) (entryIn (now (table .entry))) used
         (placeLevels (now (file .entry)) (entryIn (now (table .entry))) used parent from) r ⌝ }
 {
     let mut i = from;
     while i < end {
         let next = after(table, used, i);
-        if leads_at(file, table, used, parent, plain, i) {
-            match place_level(file, table, used, parent, end, plain, i) {
+        if leads_at(file, table, used, parent, end, known, i) {
+            match place_level(file, table, used, parent, end, known, i) {
                 Found::At(k) => {
                     return Next::Child(
                         k,
                         Turn::Places {
                             parent,
                             end,
-                            plain,
+                            known,
                             at: next,
                         },
                     );

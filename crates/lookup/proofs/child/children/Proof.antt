@@ -27,8 +27,8 @@ add-parent c = let l = inside-level _ _ _ (c .before .v .given .1) (inside-is _ 
 end-of-requires : tie.Need-end-of-requires
 end-of-requires c κs = let l = inside-level _ _ _ (c .before .v .given .1) (inside-is _ _ _ (c .before .before .before .before .f .given .1) (c .before .before .before .before .before .before .before .before .pre .1)) in (c .before .before .before .before .before .before .before .before .pre .0 .rows, omega arith)
 
-all-lead-requires : tie.Need-all-lead-requires
-all-lead-requires c κs = (c .before .before .before .before .before .before .before .before .before .pre .0, c .end-of .ensures)
+know-requires : tie.Need-know-requires
+know-requires c κs = (c .before .before .before .before .before .before .before .before .before .pre .0, c .end-of .ensures)
 
 enum-known-v-2 : tie.Need-enum-known-v-2
 enum-known-v-2 c = search needs
@@ -46,7 +46,7 @@ enum-known-at : tie.Need-enum-known-at
 enum-known-at c = search needs
 
 returns-2 : tie.Need-returns-2
-returns-2 c = walk-level _ (entryIn _) _ _ _ _ _ _ (c .before .before .before .before .before .before .f .given .1) (c .before .before .before .v .given .1) (c .before .before .before .before .before .before .before .before .before .before .pre .0 .rows .order) (c .before .end-of .ensures) (c .all-lead .ensures)
+returns-2 c = walk-level _ (entryIn _) _ _ _ _ _ _ (c .before .before .before .before .before .before .f .given .1) (c .before .before .before .v .given .1) (c .before .before .before .before .before .before .before .before .before .before .pre .0 .rows .order) (c .before .end-of .ensures) (c .know .ensures)
 
 returns-3 : tie.Need-returns-3
 returns-3 c = walk-empty _ (entryIn _) _ _ _ _ (c .before .before .before .before .before .before .before .f .given .1) (c .before .before .before .before .v2 .given .1) (is-nothing _ _ (c .enum-told2 .given .1) (c .before .before .first-element .ensures .0 _))
@@ -67,7 +67,7 @@ children-spec =
     enum-known-v
     add-parent
     end-of-requires
-    all-lead-requires
+    know-requires
     enum-known-v-2
     add-parent-2
     first-element-requires

@@ -1,40 +1,39 @@
 -- n places stand before entry i of the level's run.
 use Prim.Native.Nat.{_≤_, _<_, _-_}
 use mathlib.Core.Path.{_≡_, sym, _∙_}
-use mathlib.Core.Bool.{true}
 use mathlib.Core.Logic.{⊎-elim}
 use native.Mathlib.Omega.{arith}
 use Rattle.lookup.specs.Table.{entryIn, Run}
-use Rattle.lookup.specs.Walks.{AllLead}
+use Rattle.lookup.specs.Walks.{Knows}
 use Rattle.lookup.proofs.Places.{Placed, placed-start, placed-here, placed-skip, placed-hop, placed-end}
 use borrow.Author.Needs.{needs}
 use Rattle.lookup.proofs.place.count_places.Statement.{statement}
 use Rattle.lookup.proofs.place.count_places.Tie as tie
 
 abbrev Inv-loop : tie.InvT-loop
-Inv-loop file table used parent end plain n₀ i₀ n i =
-    (parent ≤ i) × Run (entryIn table) used parent end × (plain ≡ true → AllLead file (entryIn table) parent end) × Placed file (entryIn table) used parent i n
+Inv-loop file table used parent end known n₀ i₀ n i =
+    (parent ≤ i) × Run (entryIn table) used parent end × Knows file (entryIn table) parent end known × Placed file (entryIn table) used parent i n
 
 abbrev μ-loop : tie.MeasureT-loop
-μ-loop file table used parent end plain n₀ i₀ n i = end - i
+μ-loop file table used parent end known n₀ i₀ n i = end - i
 
 end-of-requires : tie.Need-end-of-requires Inv-loop μ-loop
 end-of-requires c κs = (c .before .before .pre .0 .rows, c .before .before .pre .1)
 
-all-lead-requires : tie.Need-all-lead-requires Inv-loop μ-loop
-all-lead-requires c κs = (c .before .before .before .pre .0, c .end-of .ensures)
+know-requires : tie.Need-know-requires Inv-loop μ-loop
+know-requires c κs = (c .before .before .before .pre .0, c .end-of .ensures)
 
 loop-holds : tie.Need-loop-holds Inv-loop μ-loop
 loop-holds c =
     let p = c .before .before .before .before .pre in
-    (omega arith, c .before .end-of .ensures, c .all-lead .ensures, placed-start _ _ _ _ (p .0 .rows .order) (p .1))
+    (omega arith, c .before .end-of .ensures, c .know .ensures, placed-start _ _ _ _ (p .0 .rows .order) (p .1))
 
 leads-at-requires : tie.Need-leads-at-requires Inv-loop μ-loop
 leads-at-requires c κs =
     let p = c .before .before .before .before .before .before .pre in
     let v = c .before .loop .inv in
     let l = c .loop-test .taken in
-    (p .0, v .0, omega (arith, l, v .1 .below .high), λ z. v .2 z _ (v .0) l)
+    (p .0, v .0, l, v .1 .below .high, v .2)
 
 add-n : tie.Need-add-n Inv-loop μ-loop
 add-n c = omega (arith, c .before .before .before .loop .inv .3 .few)
@@ -71,7 +70,7 @@ count-places-spec =
     Inv-loop
     μ-loop
     end-of-requires
-    all-lead-requires
+    know-requires
     loop-holds
     leads-at-requires
     add-n

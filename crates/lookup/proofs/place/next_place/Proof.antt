@@ -28,7 +28,7 @@ leads-at-requires c κs =
     let p = c .before .before .before .before .before .pre in
     let v = c .before .before .loop .inv in
     let l = c .before .loop-test .taken in
-    (p .0, v .0, omega (arith, l, p .1 .below .high), λ z. p .3 z _ (v .0) l)
+    (p .0, v .0, l, p .1 .below .high, p .3)
 
 place-level-requires : tie.Need-place-level-requires Inv-loop μ-loop
 place-level-requires c κs =

@@ -1,8 +1,8 @@
 -- The number is that of the entry's name.
 use Rattle.format.specs.Values.{nameOf}
 use borrow.Author.Needs.{needs}
-use Rattle.lookup.proofs.plain.hash_at.Statement.{statement}
-use Rattle.lookup.proofs.plain.hash_at.Tie as tie
+use Rattle.lookup.proofs.parts.hash_at.Statement.{statement}
+use Rattle.lookup.proofs.parts.hash_at.Tie as tie
 
 entry-at-requires : tie.Need-entry-at-requires
 entry-at-requires c κs = search needs

@@ -9,8 +9,8 @@ use Rattle.lookup.specs.Walks.{Seen}
 use Rattle.lookup.proofs.Leading.{seen-start, seen-hop}
 use borrow.Author.Needs.{needs}
 use borrow.Author.Tests.{not-false}
-use Rattle.lookup.proofs.plain.part_leads.Statement.{statement}
-use Rattle.lookup.proofs.plain.part_leads.Tie as tie
+use Rattle.lookup.proofs.parts.part_leads.Statement.{statement}
+use Rattle.lookup.proofs.parts.part_leads.Tie as tie
 
 abbrev Inv-loop : tie.InvT-loop
 Inv-loop file table used parent end parts part marks₀ i₀ marks i = (parent ≤ i) × (length marks ≡ 8192) × Seen file (entryIn table) parent parts part i marks

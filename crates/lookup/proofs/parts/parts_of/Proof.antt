@@ -1,9 +1,9 @@
--- There are no more children than entries, and one part at least.
+-- There are no more children than entries, and from one to 64 parts.
 use Prim.Native.Nat.{_-_, _≤_}
 use native.Mathlib.Omega.{arith}
 use borrow.Author.Needs.{needs}
-use Rattle.lookup.proofs.plain.parts_of.Statement.{statement}
-use Rattle.lookup.proofs.plain.parts_of.Tie as tie
+use Rattle.lookup.proofs.parts.parts_of.Statement.{statement}
+use Rattle.lookup.proofs.parts.parts_of.Tie as tie
 
 abbrev Inv-loop : tie.InvT-loop
 Inv-loop table used parent end n₀ i₀ n i = (n ≤ i) × (n ≤ used)
@@ -29,10 +29,13 @@ loop-again c =
     (omega (arith, c .after .ensures .below .low, v .0), omega (arith, v .0, c .before .loop-test .taken, c .before .before .before .before .pre .1))
 
 add-result : tie.Need-add-result Inv-loop μ-loop
-add-result c = let p = c .before .before .before .pre in let v = c .before .loop .inv in omega (arith, v .1, p .0 .room, p .1)
+add-result c = omega (arith, c .if1 .taken)
 
 returns : tie.Need-returns Inv-loop μ-loop
-returns c = omega arith
+returns c = (omega arith, omega (arith, c .if1 .taken))
+
+returns-2 : tie.Need-returns-2 Inv-loop μ-loop
+returns-2 c = (omega arith, omega arith)
 
 pub parts-of-spec : {M : Type 1} → statement M
 parts-of-spec =
@@ -46,4 +49,5 @@ parts-of-spec =
     loop-less
     loop-again
     add-result
-    returns)
+    returns
+    returns-2)
