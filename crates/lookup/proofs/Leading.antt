@@ -15,7 +15,7 @@ use Rattle.format.proofs.Tests.{and-left, and-right, same-true, same-refl}
 use Rattle.format.specs.Bytes.{same}
 use Rattle.format.specs.Values.{nameOf}
 use Rattle.format.specs.declared.Entry.{Entry}
-use Rattle.lookup.specs.Hash.{hashOf, Marked}
+use Rattle.lookup.specs.Hash.{hashOf, keyOf, Marked}
 use Rattle.lookup.specs.Table.{Ordered, Run, childNamed, lastNamed}
 use Rattle.lookup.specs.Walks.{isNone, leads, PartLeads, Seen, bit, Knows}
 use Rattle.lookup.specs.Values.{unnamedChild, kids, headOf}
@@ -66,7 +66,7 @@ module _ (s : List ℕ) (e : ℕ → Entry) (p : ℕ) where
   both-named i k q h z = let l = some-name s (e i) h in omega (arith, ap length (q ∙ no-name s (e k) z), l)
 
   -- where a part's names come once, each is the last of its name too
-  pub last-alone : (r parts i : ℕ) → PartLeads s e p r parts (hashOf (nameOf s (e i)) % parts) → p ≤ i → i < r → e i .parent ≡ p → (e i .units ≡ 0 → ⊥)
+  pub last-alone : (r parts i : ℕ) → PartLeads s e p r parts (keyOf (nameOf s (e i)) % parts) → p ≤ i → i < r → e i .parent ≡ p → (e i .units ≡ 0 → ⊥)
       → lastNamed s e p (nameOf s (e i)) r ≡ some i
   last-alone r parts i a l k h u =
       last-until s e p (nameOf s (e i)) (i + 1) r (omega arith) (λ j b c. fails _ (other j b c)) ∙ last-yes s e p (nameOf s (e i)) i (bears-own i h)
@@ -74,7 +74,7 @@ module _ (s : List ℕ) (e : ℕ → Entry) (p : ℕ) where
       other : (j : ℕ) → i + 1 ≤ j → j < r → childNamed s e p (nameOf s (e i)) j ≡ true → ⊥
       other j b c z =
           let q = borne-name _ j z in
-          let x = leads-none j (a j (omega arith) c (sym (ap (λ (n : List ℕ). hashOf n % parts) q)) (borne-child _ j z) (both-named i j q u)) in
+          let x = leads-none j (a j (omega arith) c (sym (ap (λ (n : List ℕ). keyOf n % parts) q)) (borne-child _ j z) (both-named i j q u)) in
           let y : childNamed s e p (nameOf s (e i)) i ≡ false = rw (sym q) at (nowhere-last s e p _ j x i (omega arith)) in
           true≢false (sym (bears-own i h) ∙ y)
 
@@ -140,22 +140,22 @@ module _ (s : List ℕ) (e : ℕ → Entry) (p : ℕ) where
 
     -- entry i is passed, and marks stay
     pub seen-more : (i : ℕ) (marks marks′ : List ℕ) → Seen s e p parts part i marks → ((g : ℕ) → Marked marks g → Marked marks′ g)
-        → (hashOf (nameOf s (e i)) % parts ≡ part → e i .parent ≡ p → (e i .units ≡ 0 → ⊥) → (leads s e p i ≡ true) × Marked marks′ (hashOf (nameOf s (e i))))
+        → (keyOf (nameOf s (e i)) % parts ≡ part → e i .parent ≡ p → (e i .units ≡ 0 → ⊥) → (leads s e p i ≡ true) × Marked marks′ (hashOf (nameOf s (e i))))
         → Seen s e p parts part (i + 1) marks′
     seen-more i marks marks′ h m f = record { leading = λ k a b. go k a b (decLt k i); marked = λ k a b. at k a b (decLt k i) }
       where
-        go : (k : ℕ) → p ≤ k → k < i + 1 → Dec (k < i) → hashOf (nameOf s (e k)) % parts ≡ part → e k .parent ≡ p → (e k .units ≡ 0 → ⊥)
+        go : (k : ℕ) → p ≤ k → k < i + 1 → Dec (k < i) → keyOf (nameOf s (e k)) % parts ≡ part → e k .parent ≡ p → (e k .units ≡ 0 → ⊥)
             → leads s e p k ≡ true
         go k a b (yes y) c d u = h .leading k a y c d u
         go k a b (no y) c d u = let x : k ≡ i = omega (arith, y) in rw x (f (rw x at c) (rw x at d) (rw x at u) .0)
 
-        at : (k : ℕ) → p ≤ k → k < i + 1 → Dec (k < i) → hashOf (nameOf s (e k)) % parts ≡ part → e k .parent ≡ p → (e k .units ≡ 0 → ⊥)
+        at : (k : ℕ) → p ≤ k → k < i + 1 → Dec (k < i) → keyOf (nameOf s (e k)) % parts ≡ part → e k .parent ≡ p → (e k .units ≡ 0 → ⊥)
             → Marked marks′ (hashOf (nameOf s (e k)))
         at k a b (yes y) c d u = m _ (h .marked k a y c d u)
         at k a b (no y) c d u = let x : k ≡ i = omega (arith, y) in rw x (f (rw x at c) (rw x at d) (rw x at u) .1)
 
     -- with no mark there, no child before has the name
-    pub new-leads : (n i : ℕ) (marks : List ℕ) → Ordered e n → i < n → Seen s e p parts part i marks → hashOf (nameOf s (e i)) % parts ≡ part → e i .parent ≡ p
+    pub new-leads : (n i : ℕ) (marks : List ℕ) → Ordered e n → i < n → Seen s e p parts part i marks → keyOf (nameOf s (e i)) % parts ≡ part → e i .parent ≡ p
         → (e i .units ≡ 0 → ⊥) → (Marked marks (hashOf (nameOf s (e i))) → ⊥) → leads s e p i ≡ true
     new-leads n i marks o l h c d u f = none-leads i d (last-nowhere s e p (nameOf s (e i)) i (λ k a. fails _ (other k a)))
       where
@@ -173,12 +173,12 @@ module _ (s : List ℕ) (e : ℕ → Entry) (p : ℕ) where
     seen-hop n i j marks l r h =
         record { leading = λ k a b c d u. go k a b c d u (decLt k (i + 1)); marked = λ k a b c d u. at k a b c d u (decLt k (i + 1)) }
       where
-        go : (k : ℕ) → p ≤ k → k < j → hashOf (nameOf s (e k)) % parts ≡ part → e k .parent ≡ p → (e k .units ≡ 0 → ⊥) → Dec (k < i + 1)
+        go : (k : ℕ) → p ≤ k → k < j → keyOf (nameOf s (e k)) % parts ≡ part → e k .parent ≡ p → (e k .units ≡ 0 → ⊥) → Dec (k < i + 1)
             → leads s e p k ≡ true
         go k a b c d u (yes y) = h .leading k a y c d u
         go k a b c d u (no y) = absurd (hop e n p i j l r k (omega (arith, y)) b d)
 
-        at : (k : ℕ) → p ≤ k → k < j → hashOf (nameOf s (e k)) % parts ≡ part → e k .parent ≡ p → (e k .units ≡ 0 → ⊥) → Dec (k < i + 1)
+        at : (k : ℕ) → p ≤ k → k < j → keyOf (nameOf s (e k)) % parts ≡ part → e k .parent ≡ p → (e k .units ≡ 0 → ⊥) → Dec (k < i + 1)
             → Marked marks (hashOf (nameOf s (e k)))
         at k a b c d u (yes y) = h .marked k a y c d u
         at k a b c d u (no y) = absurd (hop e n p i j l r k (omega (arith, y)) b d)

@@ -1,9 +1,9 @@
 -- A number for a name, and the marks that the numbers of names leave. Any function of the name would do: only that equal names have equal numbers is used.
-use Prim.Native.Nat.{ℕ, _+_, _*_, _/_, _%_, _^_}
+use Prim.Native.Nat.{ℕ, _+_, _-_, _*_, _/_, _%_, _^_}
 use mathlib.Core.Path.{_≡_}
 use mathlib.Core.Logic.{_⊎_}
 use mathlib.Core.List.{List, [], _∷_}
-use lib.ListN.{getD}
+use lib.ListN.{length, getD}
 
 -- the number h, with one unit more
 abbrev pub hashStep : ℕ → ℕ → ℕ
@@ -16,6 +16,10 @@ hashFrom h (u ∷ us) = hashFrom (hashStep h u) us
 unfoldable pub hashOf : List ℕ → ℕ
 unfolding hashFrom
 hashOf name = hashFrom 0 name
+
+-- the number by which a name falls into a part: of its first unit and its last
+unfoldable pub keyOf : List ℕ → ℕ
+keyOf name = getD name 0 0 % 2 ^ 16 + 31 * (getD name (length name - 1) 0 % 2 ^ 16)
 
 -- the place of a number's mark, and its print there
 abbrev pub markAt : ℕ → ℕ

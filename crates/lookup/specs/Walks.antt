@@ -10,7 +10,7 @@ use Rattle.format.specs.Values.{Slot, named, unnamed, nameOf, slotsOf, find}
 use Rattle.format.specs.Loops.{levelsOf, levelsIn}
 use Rattle.format.specs.declared.Entry.{Entry}
 use Rattle.lookup.specs.Table.{firsts, between, lastNamed, Run}
-use Rattle.lookup.specs.Hash.{hashOf, Marked}
+use Rattle.lookup.specs.Hash.{hashOf, keyOf, Marked}
 use Rattle.lookup.specs.Values.{unnamedIn, elementsOf}
 use Rattle.lookup.specs.declared.Known.{Known}
 use Rattle.lookup.specs.declared.Turn.{Turn}
@@ -32,14 +32,14 @@ leads s e p i = eqb (e i .parent) p && isNone (lastNamed s e p (nameOf s (e i)) 
 abbrev pub Leading : List ℕ → (ℕ → Entry) → ℕ → ℕ → Type 0
 Leading s e p k = e k .parent ≡ p → (e k .units ≡ 0 → ⊥) → leads s e p k ≡ true
 
--- every such child before r whose name's number leaves `part` where it is divided by `parts`
+-- every such child before r whose name's key leaves `part` where it is divided by `parts`
 abbrev pub PartLeads : List ℕ → (ℕ → Entry) → ℕ → ℕ → ℕ → ℕ → Type 0
-PartLeads s e p r parts part = (k : ℕ) → p ≤ k → k < r → hashOf (nameOf s (e k)) % parts ≡ part → Leading s e p k
+PartLeads s e p r parts part = (k : ℕ) → p ≤ k → k < r → keyOf (nameOf s (e k)) % parts ≡ part → Leading s e p k
 
 -- the same of those before entry i, and the names have left their marks
 pub record Seen (s : List ℕ) (e : ℕ → Entry) (p parts part i : ℕ) (marks : List ℕ) : Type 0 where
   pub leading : PartLeads s e p i parts part
-  pub marked : (k : ℕ) → p ≤ k → k < i → hashOf (nameOf s (e k)) % parts ≡ part → e k .parent ≡ p → (e k .units ≡ 0 → ⊥)
+  pub marked : (k : ℕ) → p ≤ k → k < i → keyOf (nameOf s (e k)) % parts ≡ part → e k .parent ≡ p → (e k .units ≡ 0 → ⊥)
       → Marked marks (hashOf (nameOf s (e k)))
 
 -- bit number k of a number

@@ -4,7 +4,7 @@ ghost use mathlib.Core.Bool.{true};
 ghost use Prim.Native.Nat.{ℕ, _+_, _*_, _^_, _≤_, _<_};
 ghost use lib.ListN.{length};
 ghost use Rattle.format.specs.Text.{units, lossy};
-ghost use Rattle.lookup.specs.Hash.{hashOf, Marked};
+ghost use Rattle.lookup.specs.Hash.{hashOf, keyOf, Marked};
 use name::unit::lossy_unit;
 
 // 2^32 divided by the golden ratio: a factor that spreads units over all bits.
@@ -36,6 +36,16 @@ pub fn hash_name(s: &[u8], at: usize, n: usize) -> u64
         i += 1;
     }
     h
+}
+
+// The key of the name of n units at `at`: of its first unit and its last.
+pub fn key_name(s: &[u8], at: usize, n: usize) -> u64
+    requires { ⌜ (at + 2 * n ≤ length (now s)) × (0 < n) ⌝ }
+    ensures { λ r. ⌜ r ≡ keyOf (lossy (units n (now (s .entry)) at)) ⌝ }
+{
+    let first = lossy_unit(s, at, n, 0) % UNITS;
+    let last = lossy_unit(s, at, n, n - 1) % UNITS;
+    first + 31 * last
 }
 
 // Sets the mark of a name whose number is h; whether no name of this number came by before.

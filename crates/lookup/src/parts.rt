@@ -7,7 +7,7 @@ ghost use lib.Dec.{eqb};
 ghost use lib.ListN.{length};
 ghost use Rattle.format.specs.Values.{nameOf};
 ghost use Rattle.lookup.specs.Table.{entryIn, Lies, Rows, Holds, Run};
-ghost use Rattle.lookup.specs.Hash.{hashOf};
+ghost use Rattle.lookup.specs.Hash.{hashOf, keyOf};
 ghost use Rattle.lookup.specs.Walks.{leads, PartLeads, Seen, bit, Knows};
 use crate::Found;
 use crate::Known;
@@ -15,6 +15,7 @@ use crate::entry::after;
 use crate::entry::entry_at;
 use crate::hash::MARKS;
 use crate::hash::hash_name;
+use crate::hash::key_name;
 use crate::hash::mark;
 use crate::list::next_unnamed;
 use crate::place::is_place;
@@ -33,6 +34,15 @@ fn hash_at(file: &[u8], table: &[u8], i: usize) -> u64
     hash_name(file, e.name as usize, e.units as usize)
 }
 
+// The key of the name of entry i, which has one.
+fn key_at(file: &[u8], table: &[u8], i: usize) -> u64
+    requires { ⌜ (48 * i + 48 ≤ length (now table)) × Lies (length (now file)) (entryIn (now table) i) × (0 < entryIn (now table) i .units) ⌝ }
+    ensures { λ r. ⌜ r ≡ keyOf (nameOf (now (file .entry)) (entryIn (now (table .entry)) i)) ⌝ }
+{
+    let e = entry_at(table, i);
+    key_name(file, e.name as usize, e.units as usize)
+}
+
 // In how many parts the names of a level fall.
 fn parts_of(table: &[u8], used: usize, parent: usize, end: usize) -> u64
     requires { ⌜ Rows (now table) used × (end ≤ used) ⌝ }
@@ -41,7 +51,10 @@ fn parts_of(table: &[u8], used: usize, parent: usize, end: usize) -> u64
     let mut n: u64 = 0;
     let mut i = parent;
     while i < end {
-        n += 1;
+        let e = entry_at(table, i);
+        if e.units != 0 {
+            n += 1;
+        }
         i = after(table, used, i);
     }
     if n / PART < MOST_PARTS {
@@ -74,11 +87,10 @@ fn first_here(
     if e.units == 0 {
         return true;
     }
-    let h = hash_at(file, table, i);
-    if h % parts != part {
+    if key_at(file, table, i) % parts != part {
         return true;
     }
-    if mark(marks, h) {
+    if mark(marks, hash_at(file, table, i)) {
         return true;
     }
     is_place(file, table, used, parent, i)
@@ -152,11 +164,12 @@ pub fn know(file: &[u8], table: &[u8], used: usize, parent: usize, end: usize) -
     }
 }
 
-// Whether entry i has a name that surely no other child has.
+// Whether the name of entry i, which has one, is surely no other child's.
 pub fn alone(file: &[u8], table: &[u8], known: Known, i: usize) -> bool
-    requires { ⌜ (48 * i + 48 ≤ length (now table)) × Lies (length (now file)) (entryIn (now table) i) × (0 < known .parts) × (known .parts ≤ 64) ⌝ }
-    ensures { λ r. ⌜ (r ≡ true → bit (known .clean) (hashOf (nameOf (now (file .entry)) (entryIn (now (table .entry)) i)) % known .parts) ≡ 1) ⌝ }
+    requires { ⌜ (48 * i + 48 ≤ length (now table)) × Lies (length (now file)) (entryIn (now table) i) × (0 < entryIn (now table) i .units)
+        × (0 < known .parts) × (known .parts ≤ 64) ⌝ }
+    ensures { λ r. ⌜ (r ≡ true → bit (known .clean) (keyOf (nameOf (now (file .entry)) (entryIn (now (table .entry)) i)) % known .parts) ≡ 1) ⌝ }
 {
-    let part = hash_at(file, table, i) % known.parts;
+    let part = key_at(file, table, i) % known.parts;
     (known.clean >> part) % 2 == 1
 }

@@ -7,17 +7,17 @@ use borrow.Author.Needs.{needs}
 use Rattle.lookup.proofs.parts.alone.Statement.{statement}
 use Rattle.lookup.proofs.parts.alone.Tie as tie
 
-hash-at-requires : tie.Need-hash-at-requires
-hash-at-requires c κs = search needs
+key-at-requires : tie.Need-key-at-requires
+key-at-requires c κs = search needs
 
 rem-part : tie.Need-rem-part
 rem-part c = search needs
 
 shr-result : tie.Need-shr-result
-shr-result c = let p = c .before .before .before .before .before .pre in omega (arith, mod-lt (c .before .before .hash-at .result) (p .2), p .3)
+shr-result c = let p = c .before .before .before .before .before .pre in omega (arith, mod-lt (c .before .before .key-at .result) (p .3), p .4)
 
 returns : tie.Need-returns
-returns c = λ z. rw (← c .before .before .hash-at .ensures .0) (eqb-true _ _ z)
+returns c = λ z. rw (← c .before .before .key-at .ensures) (eqb-true _ _ z)
 
 pub alone-spec : {M : Type 1} → statement M
-alone-spec = tie.close (tie.spec hash-at-requires rem-part shr-result returns)
+alone-spec = tie.close (tie.spec key-at-requires rem-part shr-result returns)

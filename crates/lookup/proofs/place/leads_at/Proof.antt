@@ -23,7 +23,7 @@ returns-2 c =
 alone-requires : tie.Need-alone-requires
 alone-requires c κs =
     let p = c .before .before .before .before .before .before .pre in
-    (omega (arith, p .0 .rows .room, p .2, p .3), p .0 .lie _ (omega (arith, p .2, p .3)), p .4 .some, p .4 .few)
+    (omega (arith, p .0 .rows .room, p .2, p .3), p .0 .lie _ (omega (arith, p .2, p .3)), rw (← c .before .before .before .entry-at .ensures) (omega (arith, c .if2 .left)), p .4 .some, p .4 .few)
 
 returns-3 : tie.Need-returns-3
 returns-3 c =

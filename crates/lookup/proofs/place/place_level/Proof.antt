@@ -25,7 +25,7 @@ returns c =
 alone-requires : tie.Need-alone-requires
 alone-requires c κs =
     let p = c .before .before .before .before .before .pre in
-    (omega (arith, p .0 .rows .room, p .3, p .1 .below .high), p .0 .lie _ (omega (arith, p .3, p .1 .below .high)), p .5 .some, p .5 .few)
+    (omega (arith, p .0 .rows .room, p .3, p .1 .below .high), p .0 .lie _ (omega (arith, p .3, p .1 .below .high)), rw (← c .before .before .entry-at .ensures) (omega (arith, c .if1 .left)), p .5 .some, p .5 .few)
 
 level-at-requires : tie.Need-level-at-requires
 level-at-requires c κs = search needs
