@@ -16,8 +16,8 @@ use Rattle.format.specs.Bytes.{same}
 use Rattle.format.specs.Values.{nameOf}
 use Rattle.format.specs.declared.Entry.{Entry}
 use Rattle.lookup.specs.Hash.{hashOf, keyOf, Marked}
-use Rattle.lookup.specs.Table.{Ordered, Run, childNamed, lastNamed}
-use Rattle.lookup.specs.Walks.{isNone, leads, PartLeads, Seen, bit, Knows}
+use Rattle.lookup.specs.Table.{Ordered, Run, childNamed, lastNamed, isNone}
+use Rattle.lookup.specs.Walks.{leads, PartLeads, Seen, bit, Knows}
 use Rattle.lookup.specs.Values.{unnamedChild, kids, headOf}
 use Rattle.lookup.proofs.Between.{Foremost, between-first, between-empty}
 use Rattle.lookup.proofs.Lists.{no-name, some-name}

@@ -13,9 +13,9 @@ use Rattle.format.proofs.Tests.{or-left, or-right, same-true, same-refl}
 use Rattle.format.specs.Bytes.{same}
 use Rattle.format.specs.Values.{Slot, named, unnamed, putNamed, putUnnamed, put, nameOf, slotsOf, find}
 use Rattle.format.specs.declared.Entry.{Entry}
-use Rattle.lookup.specs.Table.{firsts, Ordered, Run, lastNamed}
+use Rattle.lookup.specs.Table.{firsts, Ordered, Run, lastNamed, isNone}
 use Rattle.lookup.specs.Values.{unnamedIn}
-use Rattle.lookup.specs.Walks.{isNone, leads, leadsIn, slotFor, slotAt, slotsAt}
+use Rattle.lookup.specs.Walks.{leads, leadsIn, slotFor, slotAt, slotsAt}
 use Rattle.lookup.proofs.Between.{between-here, between-skip, between-none, between-hop, between-last, between-zero}
 use Rattle.lookup.proofs.Rows.{slots-start, slots-more, child-after, hop}
 
@@ -271,9 +271,9 @@ module _ (s : List ℕ) (e : ℕ → Entry) (p : ℕ) where
 
   -- as the code has it: r is entry i
   module _ (i : ℕ) (r : Entry) (q : r ≡ e i) where
-    pub place-first : (o : Option ℕ) → r .parent ≡ p → o ≡ lastNamed s e p (nameOf s r) i → isNone o ≡ leads s e p i
+    pub place-first : (b : Bool) → r .parent ≡ p → b ≡ isNone (lastNamed s e p (nameOf s r) i) → b ≡ leads s e p i
     unfolding leads
-    place-first o t k = sym (rw (← q, eq-eqb _ _ t, ← k))
+    place-first b t k = k ∙ sym (rw (← q, eq-eqb _ _ t))
 
     pub place-other : (r .parent ≡ p → ⊥) → false ≡ leads s e p i
     place-other h = sym (leads-other i (λ z. h (ap (λ (x : Entry). x .parent) q ∙ z)))

@@ -1,7 +1,7 @@
 -- Laws of a search for the last child of a level that bears a name. Assumes nothing.
 use Prim.Native.Nat.{ℕ, zero, suc, _+_, _-_, _≤_, _<_}
 use mathlib.Core.Path.{_≡_, refl, sym, ap, _∙_, subst}
-use mathlib.Core.Bool.{Bool, true, false, cond}
+use mathlib.Core.Bool.{Bool, true, false, cond, true≢false}
 use mathlib.Core.Option.{Option, none, some}
 use mathlib.Core.List.{List}
 use native.Mathlib.Nat.{add-zero, add-suc}
@@ -15,7 +15,7 @@ use Rattle.format.proofs.Puts.{find-step}
 use Rattle.format.specs.Bytes.{same}
 use Rattle.format.specs.Values.{nameOf, slotsOf, find}
 use Rattle.format.specs.declared.Entry.{Entry}
-use Rattle.lookup.specs.Table.{firsts, Ordered, Run, found, Within, childNamed, lastNamed}
+use Rattle.lookup.specs.Table.{firsts, Ordered, Run, found, Within, childNamed, lastNamed, isNone}
 use Rattle.lookup.specs.declared.Found.{Found}
 use Rattle.lookup.specs.declared.Found.the-variants.{At, Nothing}
 use Rattle.lookup.proofs.Rows.{slots-start, slots-more, child-after, hop}
@@ -69,6 +69,14 @@ module _ (s : List ℕ) (e : ℕ → Entry) (p : ℕ) (m : List ℕ) where
       go ih true q d h = absurd (none≢some (sym h))
       go ih false q (yes y) h = ih h y
       go ih false q (no y) h = let x : k ≡ n = omega (arith, y) in rw x q
+
+  -- one of the name, and none
+  pub some-there : (n k : ℕ) → k < n → childNamed s e p m k ≡ true → false ≡ isNone (lastNamed s e p m n)
+  some-there n k l h = go (lastNamed s e p m n) refl
+    where
+      go : (o : Option ℕ) → lastNamed s e p m n ≡ o → false ≡ isNone o
+      go none q = absurd (true≢false (sym h ∙ nowhere-last n q k l))
+      go (some j) q = refl
 
   -- one entry more
   pub last-yes : (i : ℕ) → childNamed s e p m i ≡ true → lastNamed s e p m (i + 1) ≡ some i

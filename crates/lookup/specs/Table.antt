@@ -1,7 +1,7 @@
 -- The entries that stand in a table, what a lookup may assume of them, and what a search answers.
 use Prim.Native.Nat.{ℕ, zero, suc, _+_, _-_, _*_, _^_, _≤_, _<_}
 use mathlib.Core.Path.{_≡_}
-use mathlib.Core.Bool.{Bool, _&&_, cond}
+use mathlib.Core.Bool.{Bool, true, false, _&&_, cond}
 use mathlib.Core.Option.{Option, none, some}
 use mathlib.Core.List.{List, [], _∷_}
 use lib.ListN.{length}
@@ -81,6 +81,11 @@ pub record Split (e : ℕ → Entry) (p n to r : ℕ) : Type 0 where
 unfoldable pub found : Found → Option ℕ
 found (At i) = some i
 found Nothing = none
+
+-- nothing was found
+abbrev pub isNone : Option ℕ → Bool
+isNone none = true
+isNone (some i) = false
 
 -- an entry that was found is one of n
 abbrev pub Within : ℕ → Found → Type 0

@@ -9,7 +9,7 @@ use lib.ListN.{length, drop, getElem?}
 use Rattle.format.specs.Values.{Slot, named, unnamed, nameOf, slotsOf, find}
 use Rattle.format.specs.Loops.{levelsOf, levelsIn}
 use Rattle.format.specs.declared.Entry.{Entry}
-use Rattle.lookup.specs.Table.{firsts, between, lastNamed, Run}
+use Rattle.lookup.specs.Table.{firsts, between, lastNamed, isNone, Run}
 use Rattle.lookup.specs.Hash.{hashOf, keyOf, Marked}
 use Rattle.lookup.specs.Values.{unnamedIn, elementsOf}
 use Rattle.lookup.specs.declared.Known.{Known}
@@ -19,10 +19,6 @@ use Rattle.lookup.specs.declared.Next.{Next}
 use Rattle.lookup.specs.declared.Next.the-variants as next
 
 -- ---- a level's places: its children that are the first of their name, the first unnamed one too
-
-abbrev pub isNone : Option ℕ → Bool
-isNone none = true
-isNone (some i) = false
 
 -- whether entry i is a child of p and the first of its name
 unfoldable pub leads : List ℕ → (ℕ → Entry) → ℕ → ℕ → Bool

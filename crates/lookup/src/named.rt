@@ -1,9 +1,10 @@
 // The last child of a level that bears a name.
 ghost use mathlib.Core.Path.{_≡_};
+ghost use mathlib.Core.Bool.{not};
 ghost use Prim.Native.Nat.{_+_, _*_, _≤_};
 ghost use lib.ListN.{length};
 ghost use Rattle.format.specs.Text.{units, lossy};
-ghost use Rattle.lookup.specs.Table.{entryIn, Lies, Holds, found, Within, childNamed, lastNamed};
+ghost use Rattle.lookup.specs.Table.{entryIn, Lies, Holds, found, Within, childNamed, lastNamed, isNone};
 use crate::Found;
 use crate::entry::after;
 use crate::entry::entry_at;
@@ -53,6 +54,29 @@ fn alike(file: &[u8], table: &[u8], parent: usize, i: usize, at: usize, n: usize
     let e = entry_at(table, i);
     if e.parent as usize == parent {
         return same_name(file, at, n, e.name as usize, e.units as usize);
+    }
+    false
+}
+
+// Whether a child of a level before entry `to` of its run has the name of n units at `at`.
+pub fn borne_before(
+    file: &[u8],
+    table: &[u8],
+    used: usize,
+    parent: usize,
+    to: usize,
+    at: usize,
+    n: usize,
+) -> bool
+    requires { ⌜ Holds (now file) (now table) used × (parent ≤ to) × (to ≤ used) × (at + 2 * n ≤ length (now file)) ⌝ }
+    ensures { λ r. ⌜ not r ≡ isNone (lastNamed (now (file .entry)) (entryIn (now (table .entry))) parent (lossy (units n (now (file .entry)) at)) to) ⌝ }
+{
+    let mut i = parent;
+    while i < to {
+        if alike(file, table, parent, i, at, n) {
+            return true;
+        }
+        i = after(table, used, i);
     }
     false
 }

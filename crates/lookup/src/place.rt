@@ -16,6 +16,7 @@ use crate::entry::after;
 use crate::entry::end_of;
 use crate::entry::entry_at;
 use crate::list::next_unnamed;
+use crate::named::borne_before;
 use crate::named::last_alike;
 use crate::parts::alone;
 use crate::parts::know;
@@ -28,20 +29,15 @@ pub fn is_place(file: &[u8], table: &[u8], used: usize, parent: usize, i: usize)
 {
     let e = entry_at(table, i);
     if e.parent as usize == parent {
-        match last_alike(
+        !borne_before(
             file,
             table,
             used,
             parent,
-            parent,
             i,
-            Found::Nothing,
             e.name as usize,
             e.units as usize,
-        ) {
-            Found::Nothing => true,
-            Found::At(_) => false,
-        }
+        )
     } else {
         false
     }

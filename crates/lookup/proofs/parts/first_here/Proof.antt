@@ -12,18 +12,18 @@ entry-at-requires : tie.Need-entry-at-requires
 entry-at-requires c κs = search needs
 
 returns : tie.Need-returns
-returns c = 
+returns c =
     let p = c .before .before .before .before .before .pre in
     (p .4, λ z h. seen-more _ (entryIn _) _ _ _ _ _ _ h (λ g m. m) (λ x d u. absurd (c .if1 .taken (ap (λ (y : Entry). y .parent) (c .before .entry-at .ensures) ∙ d))))
 
 returns-2 : tie.Need-returns-2
-returns-2 c = 
+returns-2 c =
     let p = c .before .before .before .before .before .before .before .pre in
     let q = ap (λ (y : Entry). y .units) (sym (c .before .before .before .entry-at .ensures)) in
     (p .4, λ z h. seen-more _ (entryIn _) _ _ _ _ _ _ h (λ g m. m) (λ x d u. absurd (u (q ∙ c .if2 .taken))))
 
 key-at-requires : tie.Need-key-at-requires
-key-at-requires c κs = 
+key-at-requires c κs =
     let p = c .before .before .before .before .before .before .before .pre in
     (omega (arith, p .0 .rows .room, p .2), p .0 .lie _ (p .2), rw (← c .before .before .before .entry-at .ensures) (omega (arith, c .if2 .left)))
 
@@ -31,7 +31,7 @@ rem-if3 : tie.Need-rem-if3
 rem-if3 c = search needs
 
 returns-3 : tie.Need-returns-3
-returns-3 c = 
+returns-3 c =
     let p = c .before .before .before .before .before .before .before .before .before .pre in
     (p .4, λ z h. seen-more _ (entryIn _) _ _ _ _ _ _ h (λ g m. m) (λ x d u. absurd (c .if3 .taken (rw (c .before .key-at .ensures) x))))
 
@@ -45,7 +45,7 @@ same-length : tie.Need-same-length
 same-length c = search needs
 
 returns-4 : tie.Need-returns-4
-returns-4 c = 
+returns-4 c =
     let p = c .before .before .before .before .before .before .before .before .before .before .before .before .before .before .before .pre in
     let m = c .before .before .before .mark .ensures in
     let q = c .before .before .before .before .hash-at .ensures .0 in (
@@ -61,7 +61,7 @@ same-length-2 : tie.Need-same-length-2
 same-length-2 c = search needs
 
 returns-5 : tie.Need-returns-5
-returns-5 c = 
+returns-5 c =
     let p = c .before .before .before .before .before .before .before .before .before .before .before .before .before .before .before .before .pre in
     let m = c .before .before .before .before .mark .ensures in
     let q = c .before .before .before .before .before .hash-at .ensures .0 in (
