@@ -42,7 +42,7 @@ unmarked marks h a b m = go (m .there)
     go (inl x) = a x
     go (inr x) = b x
 
-module _ (marks : List ℕ) (h : ℕ) (long : length marks ≡ 8192) (b : h < 2 ^ 32) where
+module _ (marks : List ℕ) (h : ℕ) (long : length marks ≡ 2048) (b : h < 2 ^ 32) where
   l : markAt h < length marks
   l = omega arith
 

@@ -23,7 +23,7 @@ keyOf name = getD name 0 0 % 2 ^ 16 + 31 * (getD name (length name - 1) 0 % 2 ^ 
 
 -- the place of a number's mark, and its print there
 abbrev pub markAt : ℕ → ℕ
-markAt h = h / 524_288
+markAt h = h / 2_097_152
 
 abbrev pub printOf : ℕ → ℕ
 printOf h = 1 + h % 254

@@ -17,9 +17,9 @@ const HASHES: u64 = 4_294_967_296;
 const UNITS: u64 = 65_536;
 
 // How many marks there are, and how many numbers share one.
-pub const MARKS: usize = 8192;
+pub const MARKS: usize = 2048;
 
-const SHARE: u64 = 524_288;
+const SHARE: u64 = 2_097_152;
 
 // The mark of names with different prints.
 const MANY: u8 = 255;
@@ -50,8 +50,8 @@ pub fn key_name(s: &[u8], at: usize, n: usize) -> u64
 
 // Sets the mark of a name whose number is h; whether no name of this number came by before.
 pub fn mark(marks: &mut [u8], h: u64) -> bool
-    requires { ⌜ (length (now marks) ≡ 8192) × (h < 2 ^ 32) ⌝ }
-    ensures { λ r. ⌜ (length (now (marks .exit)) ≡ 8192) × (r ≡ true → Marked (now (marks .entry)) h → ⊥) × Marked (now (marks .exit)) h
+    requires { ⌜ (length (now marks) ≡ 2048) × (h < 2 ^ 32) ⌝ }
+    ensures { λ r. ⌜ (length (now (marks .exit)) ≡ 2048) × (r ≡ true → Marked (now (marks .entry)) h → ⊥) × Marked (now (marks .exit)) h
         × ((g : ℕ) → Marked (now (marks .entry)) g → Marked (now (marks .exit)) g) ⌝ }
 {
     let i = (h / SHARE) as usize;

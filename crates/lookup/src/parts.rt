@@ -75,8 +75,8 @@ fn first_here(
     marks: &mut [u8],
     i: usize,
 ) -> bool
-    requires { ⌜ Holds (now file) (now table) used × (parent ≤ i) × (i < used) × (0 < parts) × (length (now marks) ≡ 8192) ⌝ }
-    ensures { λ r. ⌜ (length (now (marks .exit)) ≡ 8192)
+    requires { ⌜ Holds (now file) (now table) used × (parent ≤ i) × (i < used) × (0 < parts) × (length (now marks) ≡ 2048) ⌝ }
+    ensures { λ r. ⌜ (length (now (marks .exit)) ≡ 2048)
         × (r ≡ true → Seen (now (file .entry)) (entryIn (now (table .entry))) parent parts part i (now (marks .entry))
         → Seen (now (file .entry)) (entryIn (now (table .entry))) parent parts part (i + 1) (now (marks .exit))) ⌝ }
 {

@@ -13,7 +13,7 @@ use Rattle.lookup.proofs.parts.part_leads.Statement.{statement}
 use Rattle.lookup.proofs.parts.part_leads.Tie as tie
 
 abbrev Inv-loop : tie.InvT-loop
-Inv-loop file table used parent end parts part marks₀ i₀ marks i = (parent ≤ i) × (length marks ≡ 8192) × Seen file (entryIn table) parent parts part i marks
+Inv-loop file table used parent end parts part marks₀ i₀ marks i = (parent ≤ i) × (length marks ≡ 2048) × Seen file (entryIn table) parent parts part i marks
 
 abbrev μ-loop : tie.MeasureT-loop
 μ-loop file table used parent end parts part marks₀ i₀ marks i = end - i
