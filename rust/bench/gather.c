@@ -6,8 +6,8 @@
 
 /* The loop for samples of one type. A sample may stand at any address. */
 #define GATHER(NAME, SAMPLE)                                                                                  \
-    static void NAME(const uint8_t *restrict rows, size_t stride, size_t width, size_t height, size_t components, \
-                     size_t component, uint8_t *restrict samples)                                             \
+    static inline __attribute__((always_inline)) void NAME(const uint8_t *restrict rows, size_t stride, size_t width, size_t height, \
+                                                           size_t components, size_t component, uint8_t *restrict samples) \
     {                                                                                                         \
         for (size_t y = 0; y < height; y++) {                                                                 \
             const uint8_t *restrict from = rows + y * stride + component * sizeof(SAMPLE);                    \
@@ -20,9 +20,24 @@
         }                                                                                                     \
     }
 
+/* With the count of components known where this is compiled, the loops for 16 and 32 bits are faster; the one for 8 bits is not. */
+#define GATHER_KNOWN(NAME, LOOP)                                                                              \
+    static void NAME(const uint8_t *restrict rows, size_t stride, size_t width, size_t height, size_t components, \
+                     size_t component, uint8_t *restrict samples)                                             \
+    {                                                                                                         \
+        if (components == 2)                                                                                  \
+            LOOP(rows, stride, width, height, 2, component, samples);                                         \
+        else if (components == 3)                                                                             \
+            LOOP(rows, stride, width, height, 3, component, samples);                                         \
+        else                                                                                                  \
+            LOOP(rows, stride, width, height, components, component, samples);                                \
+    }
+
 GATHER(gather_8, uint8_t)
 GATHER(gather_16, uint16_t)
 GATHER(gather_32, uint32_t)
+GATHER_KNOWN(gather_known_16, gather_16)
+GATHER_KNOWN(gather_known_32, gather_32)
 
 /* `rows` has `height` rows of `stride` bytes, of which the first `width` x `components` samples of `bits` bits (8, 16 or 32) count; `samples` has
  * room for `width` x `height` of them. */
@@ -34,9 +49,9 @@ void bench_gather(const uint8_t *rows, size_t stride, size_t width, size_t heigh
         gather_8(rows, stride, width, height, components, component, samples);
         break;
     case 16:
-        gather_16(rows, stride, width, height, components, component, samples);
+        gather_known_16(rows, stride, width, height, components, component, samples);
         break;
     default:
-        gather_32(rows, stride, width, height, components, component, samples);
+        gather_known_32(rows, stride, width, height, components, component, samples);
     }
 }
