@@ -21,7 +21,7 @@ use crate::list::next_unnamed;
 use crate::place::is_place;
 
 // A part of a level's names has about this many, and there are at most so many parts.
-const PART: u64 = 256;
+const PART: u64 = 64;
 
 const MOST_PARTS: u64 = 64;
 
