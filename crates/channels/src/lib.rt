@@ -73,7 +73,8 @@ fn is_broken(at: Lookup) -> bool
 // The plane records of the tree that a lookup found, read into the table: of its refusals only 18 stops them.
 fn read_planes(file: &[u8], at: Lookup, table: &mut [u8], most: u64, row: usize) -> Prepared
     ensures { λ r. ⌜ Ready (now (file .entry)) (now (table .exit)) row most
-        (recordsBy (now (file .entry)) (treeUnder (now (file .entry)) (roomIn (length (now (table .entry)))) (ascii "ImageMetadataSeqLV|0!") (lookupOf at))) r ⌝ }
+        (recordsBy (now (file .entry))
+        (treeUnder (now (file .entry)) (roomIn (length (now (table .entry)))) (ascii "ImageMetadataSeqLV|0!") (lookupOf at))) r ⌝ }
 {
     match read_named(file, b"ImageMetadataSeqLV|0!", at, table) {
         Parsed::Refused(n) => {

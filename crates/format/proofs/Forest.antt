@@ -11,7 +11,8 @@ use native.Mathlib.Decide.{decLt}
 use lib.ListN.{length, getElem?}
 use Rattle.format.proofs.Answers.{none≢some}
 use Rattle.format.specs.Chunks.{dataIn}
-use Rattle.format.specs.Grammar.Trees.{valueStart, Plain, fixed, text-ended, text-cut, bytes, countAt, kidsFrom, kidsTo, levelTo, EntryOf, Records, counted, quiet, plain, nested, Tree}
+use Rattle.format.specs.Grammar.Trees.{valueStart, Plain, fixed, text-ended, text-cut, bytes, countAt, kidsFrom, kidsTo, levelTo, EntryOf}
+use Rattle.format.specs.Grammar.Trees.{Records, counted, quiet, plain, nested, Tree}
 use Rattle.format.specs.declared.Entry.{Entry}
 use Rattle.format.specs.declared.Range.{Range}
 
@@ -41,7 +42,8 @@ plain-ends d e v k from len p (text-cut n u h z) = record { low = omega arith; h
 plain-ends d e v k from len p (bytes h) = record { low = omega arith; high = omega arith; inside = h }
 
 module _ (d : List ℕ) (base : ℕ) where
-  root : (parent i from len m : ℕ) (en : Entry) → EntryOf d base parent i from len en → valueStart d i ≤ from → from + len ≤ m → Root (base + i) (base + m) parent en
+  root : (parent i from len m : ℕ) (en : Entry) → EntryOf d base parent i from len en → valueStart d i ≤ from → from + len ≤ m
+      → Root (base + i) (base + m) parent en
   root parent i from len m en x l r =
       record { parent-is = x .parent-is; low = omega (arith, x .name); order = omega (arith, x .name, x .value); high = omega (arith, x .value, x .size) }
 
@@ -121,8 +123,8 @@ forest-placed p u l i x (tree e ks rs t f r) o h =
         record { old = omega (arith, w .old); from = λ n. let z = w .from n in omega arith }
 
 -- an entry outside of q, at or after its first child's place, ends q's children
-pub forest-nested : {lo hi : ℕ} (p u : ℕ) (l : List Entry) (q i k : ℕ) (x y : Entry) → Forest lo hi p u l → p ≤ u → getElem? l i ≡ some x → getElem? l k ≡ some y
-    → i ≤ k → q ≤ u + i → x .parent < q → y .parent ≡ q → ⊥
+pub forest-nested : {lo hi : ℕ} (p u : ℕ) (l : List Entry) (q i k : ℕ) (x y : Entry) → Forest lo hi p u l → p ≤ u → getElem? l i ≡ some x
+    → getElem? l k ≡ some y → i ≤ k → q ≤ u + i → x .parent < q → y .parent ≡ q → ⊥
 forest-nested p u l q i k x y (bare o′) o h m a b c d = none≢some h
 forest-nested p u l q i k x y (tree e ks rs w f r) o h m a b c d =
     go (λ i k h m a b c d. forest-nested (suc u) (suc u) ks q i k x y f (omega arith) h m a b c d) (λ i k h m a b c d. forest-nested p (suc u + length ks) rs q i k x y r (omega arith) h m a b c d)
@@ -252,8 +254,8 @@ among-second [] b j = rw zero-add
 among-second (c ∷ a) b j = rw (let z : suc (length a) + j ≡ suc (length a + j) = omega arith in z) (among-second a b j)
 
 -- the trees behind another one begin with an entry of their own level
-first-outside : {lo hi : ℕ} (p u : ℕ) (l : List Entry) (n : ℕ) (y : Entry) → Forest lo hi p u l → getElem? l n ≡ some y → ((z : Entry) → getElem? l 0 ≡ some z → z .parent ≡ p → ⊥)
-    → ⊥
+first-outside : {lo hi : ℕ} (p u : ℕ) (l : List Entry) (n : ℕ) (y : Entry) → Forest lo hi p u l → getElem? l n ≡ some y
+    → ((z : Entry) → getElem? l 0 ≡ some z → z .parent ≡ p → ⊥) → ⊥
 first-outside p u l n y (bare o) h k = none≢some h
 first-outside p u l n y (tree e ks rs t f r) h k = k e refl (t .parent-is)
 
@@ -270,7 +272,9 @@ forest-inside p u l i k x y (tree e ks rs t f r) q a g h b =
 
     -- entry i is no parent of what comes behind the first tree
     no : (n : ℕ) → i ≤ length ks → k ≡ suc (length ks + n) → getElem? rs n ≡ some y → ⊥
-    no n c d w = first-outside p (suc u + length ks) rs n y r w (λ z v m. let w = b (suc (length ks + 0)) z (omega arith) (omega arith) (late 0 z v) in omega arith)
+    no n c d w =
+        first-outside p (suc u + length ks) rs n y r w
+        (λ z v m. let w = b (suc (length ks + 0)) z (omega arith) (omega arith) (late 0 z v) in omega arith)
 
     go : ((j n : ℕ) → j < n → getElem? ks j ≡ some x → getElem? ks n ≡ some y
         → ((m : ℕ) (z : Entry) → j < m → m ≤ n → getElem? ks m ≡ some z → suc u + j < z .parent) → y .name ≤ x .value + x .size)

@@ -57,7 +57,8 @@ module _ (f : ℕ → Bool) where
       go zero c h = rw add-zero
       go (suc m) c h =
           let x : a + m + 1 ≡ a + suc m = omega arith in
-          go m (omega arith) (λ i d e. h i d (omega arith)) ∙ between-skip (a + m) n (omega arith) (h (a + m) (omega arith) (omega arith)) ∙ ap (λ (y : ℕ). between f y n) x
+          go m (omega arith) (λ i d e. h i d (omega arith)) ∙ between-skip (a + m) n (omega arith) (h (a + m) (omega arith) (omega arith))
+          ∙ ap (λ (y : ℕ). between f y n) x
 
   -- ---- one number more at the end
 

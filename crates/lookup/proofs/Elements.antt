@@ -21,7 +21,8 @@ use Rattle.lookup.specs.Values.{onlyUnnamed, unnamedIn, elementsFrom, el
 use Rattle.lookup.specs.declared.Found.{Found}
 use Rattle.lookup.specs.declared.Found.the-variants.{At, Nothing}
 use Rattle.lookup.proofs.Rows.{slots-more, slots-start, getElem-firsts, child-after, hop}
-use Rattle.lookup.proofs.Between.{nil-not, Picked, between-here, between-skip, between-end, between-none, between-hop, between-last, between-zero, between-short, between-split}
+use Rattle.lookup.proofs.Between.{nil-not, Picked, between-here, between-skip, between-end, between-none, between-hop, between-last}
+use Rattle.lookup.proofs.Between.{between-zero, between-short, between-split}
 use Rattle.lookup.proofs.Search.{is-at, is-nothing}
 use Rattle.lookup.proofs.Lists.{no-name, some-name, unnamed-more, collapse-is}
 

@@ -59,7 +59,8 @@ module _ (s : List ℕ) (e : ℕ → Entry) (p : ℕ) where
   -- up to the end of what lies below it, a child is the last of its name; r is its entry
   pub last-own : (n i j : ℕ) → p ≤ i → Run e n (i + 1) j → e i .parent ≡ p → (r : Entry) → r ≡ e i → some i ≡ lastNamed s e p (nameOf s r) j
   last-own n i j l q h r z =
-      rw z (sought-on s e p (nameOf s (e i)) n j i j (some i) (omega (arith, q .below .low)) l q (sym (last-yes s e p (nameOf s (e i)) i (bears-own i h))) .by (omega arith))
+      let y = sym (last-yes s e p (nameOf s (e i)) i (bears-own i h)) in
+      rw z (sought-on s e p (nameOf s (e i)) n j i j (some i) (omega (arith, q .below .low)) l q y .by (omega arith))
 
   -- two entries of one name: with a name both
   both-named : (i k : ℕ) → nameOf s (e i) ≡ nameOf s (e k) → (e i .units ≡ 0 → ⊥) → e k .units ≡ 0 → ⊥

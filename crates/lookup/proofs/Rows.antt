@@ -157,7 +157,8 @@ module _ (e : ℕ → Entry) (n : ℕ) (o : Ordered e n) where
       go (yes y) = let x = o .rising k i y l in omega arith
       go (no y) = let x : k ≡ i = omega (arith, y) in rw x h
 
-  pub split-less : (p i m to r : ℕ) → i ≤ m → m ≤ n → ((k : ℕ) → p ≤ k → k < i → e k .name ≤ to) → p ≤ i → (m < n → to < e m .name) → Split e i m to r → Split e p n to r
+  pub split-less : (p i m to r : ℕ) → i ≤ m → m ≤ n → ((k : ℕ) → p ≤ k → k < i → e k .name ≤ to) → p ≤ i → (m < n → to < e m .name)
+      → Split e i m to r → Split e p n to r
   split-less p i m to r a b f c g q =
       record { low = omega (arith, q .low); high = omega (arith, q .high); by = λ k x y. by k x y (decLt k i); behind = λ l. behind l (decLt r m) }
     where

@@ -12,7 +12,8 @@ use Rattle.format.specs.Bytes.{over, zeros}
 use Rattle.format.specs.Trees.{tableBytes}
 use Rattle.format.specs.declared.Entry.{Entry}
 
-pub cleared-behind : (t q : List ℕ) (a : ℕ) → a ≤ length t → q ≡ zeros (length (midOf a (length t - a) t)) → putMid a (length t - a) t q ≡ take a t ++ zeros (length t - a)
+pub cleared-behind : (t q : List ℕ) (a : ℕ) → a ≤ length t → q ≡ zeros (length (midOf a (length t - a) t))
+    → putMid a (length t - a) t q ≡ take a t ++ zeros (length t - a)
 cleared-behind t q a l e =
     let end : a + (length t - a) ≡ length t = omega arith in
     rw (drop-drop, end, drop-length, append-nil, e, mid-len a (length t) t (omega arith)) refl

@@ -57,7 +57,8 @@ returns-2 c =
     let w = c .without2 .ensures in
     let i = c .before in
     let b = i .before in
-    ready-refused _ _ _ _ (w .1) 5 (no-map _ _ _ _ (passed (b .before .before .before .before)) (looked b) (rw (i .if2 .taken) at (b .is-broken .ensures))) (w .0)
+    ready-refused _ _ _ _ (w .1) 5 (no-map _ _ _ _ (passed (b .before .before .before .before)) (looked b) (rw (i .if2 .taken) at (b .is-broken .ensures)))
+    (w .0)
 
 without-requires-3 : tie.Need-without-requires-3
 without-requires-3 c κs = search needs
@@ -68,7 +69,9 @@ returns-3 c =
     let i = c .before in
     let d = i .before .before in
     let b = d .before in
-    ready-refused _ _ _ _ (w .1) 19 (short-row _ _ _ _ (passed (b .before .before .before .before)) (looked b) (rw (d .if2 .left) at (b .is-broken .ensures)) (i .if3 .taken)) (w .0)
+    ready-refused _ _ _ _ (w .1) 19
+    (short-row _ _ _ _ (passed (b .before .before .before .before)) (looked b) (rw (d .if2 .left) at (b .is-broken .ensures)) (i .if3 .taken))
+    (w .0)
 
 read-planes-requires : tie.Need-read-planes-requires
 read-planes-requires c κs = search needs

@@ -176,8 +176,15 @@ load-experiment-rec-load-children-requires : (t : ℕ) → load-experiment-rec-l
 load-experiment-rec-load-children-requires t c κs =
     let a = c .before .before .before .before .before .before .before .before .before .before .before .before in
     let (bs, s) = a .pre .1 .3 in
-    let l = c .before .before .before .before .before .before .before .before .before .if1 .left in
-    (omega (arith, a .pre .0, l), (a .pre .1 .0, c .before .before .children .ensures .good, omega (arith, a .pre .1 .2, l, c .before .nesting-below .ensures .1), (_, c .appended .ensures bs s)))
+    let l = c .before .before .before .before .before .before .before .before .before .if1 .left in (
+      omega (arith, a .pre .0, l),
+      (
+        a .pre .1 .0,
+        c .before .before .children .ensures .good,
+        omega (arith, a .pre .1 .2, l, c .before .nesting-below .ensures .1),
+        (_, c .appended .ensures bs s),
+      ),
+    )
 
 load-experiment-rec-returns-2 : (t : ℕ) → load-experiment-rec-lts.Need-returns-2 (one t) (load-experiment-rec-at t) load-experiment-rec.Post
 load-experiment-rec-returns-2 t c bs s = gives-nothing _ _ _ _ _ _ (c .before .before .before .if1 .left) bs (sym (ap saidOf (c .enum-told .given .1)) ∙ c .before .before .single-experiment-loop .ensures) refl s
@@ -190,7 +197,8 @@ unfolding ascii
 load-experiment-rec-returns-4 t c bs s =
     let a = c .before .before .before .before .before .before .before .before .before .before .before .before .before .args in
     gives-loop _ _ _ _ _ _ (c .before .before .before .before .before .before .before .before .before .before .if1 .left) bs _ _ _ _ (sym (ap saidOf (c .before .before .before .before .before .before .before .kind .given .1)) ∙ c .before .before .before .before .before .before .before .before .before .single-experiment-loop .ensures) (c .before .before .nesting-below .ensures .0)
-    (ap (childLevels (a .file .now) (entriesIn (a .table .now) (a .used))) (sym (c .before .before .before .before .get .ensures .0)) ∙ c .before .before .before .children .ensures .rest)
+    (ap (childLevels (a .file .now) (entriesIn (a .table .now) (a .used))) (sym (c .before .before .before .before .get .ensures .0))
+    ∙ c .before .before .before .children .ensures .rest)
     (c .load-children .ensures _ (c .before .appended .ensures bs s))
 
 pub +load-children+load-experiment-rec-spec : {M : Type 1} → statement M

@@ -13,7 +13,8 @@ enum-known-used : tie.Need-enum-known-used
 enum-known-used c = search needs
 
 clear-behind-requires : tie.Need-clear-behind-requires
-clear-behind-requires c κs = let r = rw (c .before .before .used .given .1) at (c .before .before .before .before .before .before .tree-named .ensures) in r .holds .rows .room
+clear-behind-requires c κs =
+    let r = rw (c .before .before .used .given .1) at (c .before .before .before .before .before .before .tree-named .ensures) in r .holds .rows .room
 
 enum-known-n : tie.Need-enum-known-n
 enum-known-n c = search needs

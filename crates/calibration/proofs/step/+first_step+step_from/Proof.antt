@@ -146,12 +146,16 @@ step-from-sub-first-step : (t : ℕ) → step-from-lts.Need-sub-first-step (one 
 step-from-sub-first-step t c = search needs
 
 step-from-first-step-requires : (t : ℕ) → step-from-lts.Need-first-step-requires (one t) (step-from-at t) step-from.Post
-step-from-first-step-requires t c κs = let a = c .before .before .before .before .before .before .before .before .before in (omega (arith, a .pre .0), (a .pre .1 .0, c .children .ensures .good))
+step-from-first-step-requires t c κs =
+    let a = c .before .before .before .before .before .before .before .before .before in
+    (omega (arith, a .pre .0), (a .pre .1 .0, c .children .ensures .good))
 
 step-from-returns-3 : (t : ℕ) → step-from-lts.Need-returns-3 (one t) (step-from-at t) step-from.Post
 unfolding ascii
 step-from-returns-3 t c =
-    step-below _ _ _ _ (c .before .before .before .before .before .before .before .if1 .left) _ _ _ (sym (ap real (c .before .before .before .before .enum-told .given .1)) ∙ c .before .before .before .before .before .before .own-step .ensures) (c .before .before .get .ensures .0) (c .before .children .ensures .rest) (c .first-step .ensures)
+    let e = sym (ap real (c .before .before .before .before .enum-told .given .1)) ∙ c .before .before .before .before .before .before .own-step .ensures in
+    step-below _ _ _ _ (c .before .before .before .before .before .before .before .if1 .left) _ _ _ e (c .before .before .get .ensures .0)
+    (c .before .children .ensures .rest) (c .first-step .ensures)
 
 pub +first-step+step-from-spec : {M : Type 1} → statement M
 +first-step+step-from-spec = close μ-first-step μ-step-from (λ t. first-step-lts.spec (kids t)

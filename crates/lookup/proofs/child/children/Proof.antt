@@ -22,10 +22,16 @@ enum-known-v : tie.Need-enum-known-v
 enum-known-v c = search needs
 
 add-parent : tie.Need-add-parent
-add-parent c = let l = inside-level _ _ _ (c .before .v .given .1) (inside-is _ _ _ (c .before .before .before .before .f .given .1) (c .before .before .before .before .before .before .before .before .pre .1)) in omega arith
+add-parent c =
+    let l = inside-level _ _ _ (c .before .v .given .1)
+    (inside-is _ _ _ (c .before .before .before .before .f .given .1) (c .before .before .before .before .before .before .before .before .pre .1)) in
+    omega arith
 
 end-of-requires : tie.Need-end-of-requires
-end-of-requires c κs = let l = inside-level _ _ _ (c .before .v .given .1) (inside-is _ _ _ (c .before .before .before .before .f .given .1) (c .before .before .before .before .before .before .before .before .pre .1)) in (c .before .before .before .before .before .before .before .before .pre .0 .rows, omega arith)
+end-of-requires c κs =
+    let l = inside-level _ _ _ (c .before .v .given .1)
+    (inside-is _ _ _ (c .before .before .before .before .f .given .1) (c .before .before .before .before .before .before .before .before .pre .1)) in
+    (c .before .before .before .before .before .before .before .before .pre .0 .rows, omega arith)
 
 know-requires : tie.Need-know-requires
 know-requires c κs = (c .before .before .before .before .before .before .before .before .before .pre .0, c .end-of .ensures)
@@ -34,10 +40,16 @@ enum-known-v-2 : tie.Need-enum-known-v-2
 enum-known-v-2 c = search needs
 
 add-parent-2 : tie.Need-add-parent-2
-add-parent-2 c = let l = inside-list _ _ _ (c .before .v2 .given .1) (inside-is _ _ _ (c .before .before .before .before .f .given .1) (c .before .before .before .before .before .before .before .before .pre .1)) in omega arith
+add-parent-2 c =
+    let l = inside-list _ _ _ (c .before .v2 .given .1)
+    (inside-is _ _ _ (c .before .before .before .before .f .given .1) (c .before .before .before .before .before .before .before .before .pre .1)) in
+    omega arith
 
 first-element-requires : tie.Need-first-element-requires
-first-element-requires c κs = let l = inside-list _ _ _ (c .before .v2 .given .1) (inside-is _ _ _ (c .before .before .before .before .f .given .1) (c .before .before .before .before .before .before .before .before .pre .1)) in (c .before .before .before .before .before .before .before .before .pre .0 .rows, omega arith)
+first-element-requires c κs =
+    let l = inside-list _ _ _ (c .before .v2 .given .1)
+    (inside-is _ _ _ (c .before .before .before .before .f .given .1) (c .before .before .before .before .before .before .before .before .pre .1)) in
+    (c .before .before .before .before .before .before .before .before .pre .0 .rows, omega arith)
 
 enum-told-2 : tie.Need-enum-told-2
 enum-told-2 c = search needs
@@ -46,13 +58,21 @@ enum-known-at : tie.Need-enum-known-at
 enum-known-at c = search needs
 
 returns-2 : tie.Need-returns-2
-returns-2 c = walk-level _ (entryIn _) _ _ _ _ _ _ (c .before .before .before .before .before .before .f .given .1) (c .before .before .before .v .given .1) (c .before .before .before .before .before .before .before .before .before .before .pre .0 .rows .order) (c .before .end-of .ensures) (c .know .ensures)
+returns-2 c =
+    walk-level _ (entryIn _) _ _ _ _ _ _ (c .before .before .before .before .before .before .f .given .1) (c .before .before .before .v .given .1)
+    (c .before .before .before .before .before .before .before .before .before .before .pre .0 .rows .order) (c .before .end-of .ensures) (c .know .ensures)
 
 returns-3 : tie.Need-returns-3
-returns-3 c = walk-empty _ (entryIn _) _ _ _ _ (c .before .before .before .before .before .before .before .f .given .1) (c .before .before .before .before .v2 .given .1) (is-nothing _ _ (c .enum-told2 .given .1) (c .before .before .first-element .ensures .0 _))
+returns-3 c =
+    walk-empty _ (entryIn _) _ _ _ _ (c .before .before .before .before .before .before .before .f .given .1)
+    (c .before .before .before .before .v2 .given .1) (is-nothing _ _ (c .enum-told2 .given .1) (c .before .before .first-element .ensures .0 _))
 
 returns-4 : tie.Need-returns-4
-returns-4 c = walk-list _ (entryIn _) _ _ _ _ _ (c .before .before .before .before .before .before .before .before .f .given .1) (c .before .before .before .before .before .v2 .given .1) (at-within _ _ _ (c .before .at .given .1) (c .before .before .before .first-element .ensures .1)) (λ t. is-at _ _ _ (c .before .at .given .1) (c .before .before .before .first-element .ensures .0 t))
+returns-4 c =
+    walk-list _ (entryIn _) _ _ _ _ _ (c .before .before .before .before .before .before .before .before .f .given .1)
+    (c .before .before .before .before .before .v2 .given .1)
+    (at-within _ _ _ (c .before .at .given .1) (c .before .before .before .first-element .ensures .1))
+    (λ t. is-at _ _ _ (c .before .at .given .1) (c .before .before .before .first-element .ensures .0 t))
 
 returns-5 : tie.Need-returns-5
 returns-5 c = walk-other _ (entryIn _) _ _ _ (c .before .before .f .given .1) (c .match2 .keys3)

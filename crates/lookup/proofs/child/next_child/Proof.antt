@@ -27,7 +27,9 @@ enum-known-walk : tie.Need-enum-known-walk Inv-loop μ-loop
 enum-known-walk c = search needs
 
 next-place-requires : tie.Need-next-place-requires Inv-loop μ-loop
-next-place-requires c κs = let g = standing-places _ (entryIn _) _ _ _ _ _ _ (c .before .walk .given .1) (c .before .before .before .loop .inv .0) in (c .before .before .before .before .before .before .pre .0, g .0, g .1, g .2)
+next-place-requires c κs =
+    let g = standing-places _ (entryIn _) _ _ _ _ _ _ (c .before .walk .given .1) (c .before .before .before .loop .inv .0) in
+    (c .before .before .before .before .before .before .pre .0, g .0, g .1, g .2)
 
 returns-2 : tie.Need-returns-2 Inv-loop μ-loop
 returns-2 c = next-same _ (entryIn _) _ _ _ (c .next-place .result) (rest-is _ (entryIn _) _ _ _ _ (c .before .before .before .before .loop .inv .1) (c .before .before .walk .given .1)) (c .next-place .ensures)
@@ -36,17 +38,22 @@ enum-known-walk-2 : tie.Need-enum-known-walk-2 Inv-loop μ-loop
 enum-known-walk-2 c = search needs
 
 after-element-requires : tie.Need-after-element-requires Inv-loop μ-loop
-after-element-requires c κs = let g = standing-elements _ (entryIn _) _ _ _ _ _ (c .before .walk2 .given .1) (c .before .before .before .loop .inv .0) in (c .before .before .before .before .before .before .pre .0 .rows, g .0, g .1)
+after-element-requires c κs =
+    let g = standing-elements _ (entryIn _) _ _ _ _ _ (c .before .walk2 .given .1) (c .before .before .before .loop .inv .0) in
+    (c .before .before .before .before .before .before .pre .0 .rows, g .0, g .1)
 
 level-at-requires : tie.Need-level-at-requires Inv-loop μ-loop
-level-at-requires c κs = let g = standing-elements _ (entryIn _) _ _ _ _ _ (c .before .before .walk2 .given .1) (c .before .before .before .before .loop .inv .0) in (c .before .before .before .before .before .before .before .pre .0 .rows, g .0)
+level-at-requires c κs =
+    let g = standing-elements _ (entryIn _) _ _ _ _ _ (c .before .before .walk2 .given .1) (c .before .before .before .before .loop .inv .0) in
+    (c .before .before .before .before .before .before .before .pre .0 .rows, g .0)
 
 enum-known-i : tie.Need-enum-known-i Inv-loop μ-loop
 enum-known-i c = search needs
 
 returns-3 : tie.Need-returns-3 Inv-loop μ-loop
 returns-3 c =
-    let g = standing-elements _ (entryIn _) _ _ _ _ _ (c .before .before .before .before .before .before .walk2 .given .1) (c .before .before .before .before .before .before .before .before .loop .inv .0) in
+    let g = standing-elements _ (entryIn _) _ _ _ _ _ (c .before .before .before .before .before .before .walk2 .given .1)
+    (c .before .before .before .before .before .before .before .before .loop .inv .0) in
     let b = c .before .before .before .before .after-element .ensures _ in (
       at-within _ _ _ (c .before .i .given .1) (c .before .before .before .level-at .ensures .1),
       b .walk .good,
@@ -58,12 +65,14 @@ enum-told-2 c = search needs
 
 loop-less : tie.Need-loop-less Inv-loop μ-loop
 loop-less c =
-    let g = standing-elements _ (entryIn _) _ _ _ _ _ (c .before .before .before .before .before .walk2 .given .1) (c .before .before .before .before .before .before .before .loop .inv .0) in
+    let g = standing-elements _ (entryIn _) _ _ _ _ _ (c .before .before .before .before .before .walk2 .given .1)
+    (c .before .before .before .before .before .before .before .loop .inv .0) in
     element-less _ (entryIn _) _ _ _ _ _ _ (c .before .before .before .before .before .walk2 .given .1) (c .before .before .before .before .before .before .before .loop .inv .1) (g .1 _) _ (c .before .before .before .after-element .ensures _)
 
 loop-again : tie.Need-loop-again Inv-loop μ-loop
 loop-again c =
-    let g = standing-elements _ (entryIn _) _ _ _ _ _ (c .before .before .before .before .before .walk2 .given .1) (c .before .before .before .before .before .before .before .loop .inv .0) in
+    let g = standing-elements _ (entryIn _) _ _ _ _ _ (c .before .before .before .before .before .walk2 .given .1)
+    (c .before .before .before .before .before .before .before .loop .inv .0) in
     let b = c .before .before .before .after-element .ensures _ in
     (b .walk .good, element-none _ (entryIn _) _ _ _ _ _ _ (c .before .before .before .before .before .walk2 .given .1) (c .before .before .before .before .before .before .before .loop .inv .1) (g .1 _) _ b (is-nothing _ _ (c .enum-told2 .given .1) (c .before .before .level-at .ensures .0 _)))
 

@@ -51,7 +51,8 @@ loop-again-2 c =
 returns : tie.Need-returns Inv-loop μ-loop
 returns c =
     let v = c .before .loop .inv in
-    record { low = v .0; high = omega (arith, v .2); by = v .3; behind = λ l. rw (let z : c .before .loop .a ≡ c .before .loop .b = omega (arith, v .1) in z) (v .4 (omega arith)) }
+    let z : c .before .loop .a ≡ c .before .loop .b = omega (arith, v .1) in
+    record { low = v .0; high = omega (arith, v .2); by = v .3; behind = λ l. rw z (v .4 (omega arith)) }
 
 pub first-behind-spec : {M : Type 1} → statement M
 first-behind-spec =

@@ -41,7 +41,8 @@ returns c =
     let p = c .before .before .before .before .before .before .pre in
     let v = c .before .before .before .before .loop .inv in
     let t = c .before .before .before .loop-test .taken in
-    split-less (entryIn _) _ (p .0 .order) _ _ _ _ _ (omega arith) (omega (arith, v .1, t)) (v .2) (v .0) (λ l. rw (c .before .before .name-at .ensures) at (c .before .if1 .taken)) (c .first-behind .ensures)
+    split-less (entryIn _) _ (p .0 .order) _ _ _ _ _ (omega arith) (omega (arith, v .1, t)) (v .2) (v .0)
+    (λ l. rw (c .before .before .name-at .ensures) at (c .before .if1 .taken)) (c .first-behind .ensures)
 
 add-low : tie.Need-add-low Inv-loop μ-loop
 add-low c = search needs
@@ -63,7 +64,8 @@ first-behind-requires-2 c κs = (c .before .before .before .pre .0, c .before .l
 returns-2 : tie.Need-returns-2 Inv-loop μ-loop
 returns-2 c =
     let v = c .before .before .loop .inv in
-    split-less (entryIn _) _ (c .before .before .before .before .pre .0 .order) _ _ _ _ _ (v .1) (omega arith) (v .2) (v .0) (λ l. absurd (omega arith)) (c .first-behind2 .ensures)
+    split-less (entryIn _) _ (c .before .before .before .before .pre .0 .order) _ _ _ _ _ (v .1) (omega arith) (v .2) (v .0) (λ l. absurd (omega arith))
+    (c .first-behind2 .ensures)
 
 pub first-from-spec : {M : Type 1} → statement M
 first-from-spec =

@@ -22,7 +22,8 @@ le8-requires-2 c κs = search needs
 
 add-result : tie.Need-add-result
 unfolding entryIn
-add-result c = let h = c .before .before .before .pre .0 .short _ (c .before .before .before .pre .1) in omega (arith, h, c .before .le8 .ensures, c .le82 .ensures)
+add-result c =
+    let h = c .before .before .before .pre .0 .short _ (c .before .before .before .pre .1) in omega (arith, h, c .before .le8 .ensures, c .le82 .ensures)
 
 returns : tie.Need-returns
 unfolding entryIn

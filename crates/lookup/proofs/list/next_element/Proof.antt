@@ -39,9 +39,15 @@ returns : tie.Need-returns Inv-loop μ-loop
 unfolding found
 returns c =
     let q = c .before .before .before .before .before .parent-at .ensures in
-    let l = rw (← q) at (c .before .before .before .before .before .before .before .before .pre .0 .order .older _ (c .before .before .before .before .before .before .loop .inv .0)) in
-    let h = is-at _ _ _ (c .before .j .given .1) (c .before .before .before .next-unnamed .ensures .0) ∙ ap headOf (sym (kids-hop (entryIn _) _ _ _ _ l (c .before .before .before .before .after .ensures))) in
-    (λ s m q. number-next s (entryIn _) _ _ m _ (next-found (entryIn _) _ _ _ _ (c .before .before .before .before .before .before .before .before .pre .0 .order) (c .before .before .before .before .before .before .loop .inv .1 _ (after-number s (entryIn _) _ _ m _ q)) _ (c .before .before .before .before .before .parent-at .ensures) _ h), at-within _ _ _ (c .before .j .given .1) (c .before .before .before .next-unnamed .ensures .1))
+    let o = c .before .before .before .before .before .before .before .before .pre .0 .order in
+    let l = rw (← q) at (o .older _ (c .before .before .before .before .before .before .loop .inv .0)) in
+    let h = is-at _ _ _ (c .before .j .given .1) (c .before .before .before .next-unnamed .ensures .0) ∙ ap headOf
+    (sym (kids-hop (entryIn _) _ _ _ _ l (c .before .before .before .before .after .ensures))) in (
+      λ s m q. number-next s (entryIn _) _ _ m _
+          (next-found (entryIn _) _ _ _ _ o
+          (c .before .before .before .before .before .before .loop .inv .1 _ (after-number s (entryIn _) _ _ m _ q)) _ (c .before .before .before .before .before .parent-at .ensures) _ h),
+      at-within _ _ _ (c .before .j .given .1) (c .before .before .before .next-unnamed .ensures .1),
+    )
 
 enum-told : tie.Need-enum-told Inv-loop μ-loop
 enum-told c = search needs
@@ -50,15 +56,22 @@ returns-2 : tie.Need-returns-2 Inv-loop μ-loop
 unfolding found
 returns-2 c =
     let q = c .before .before .before .before .before .parent-at .ensures in
-    let l = rw (← q) at (c .before .before .before .before .before .before .before .before .pre .0 .order .older _ (c .before .before .before .before .before .before .loop .inv .0)) in
-    let h = is-nothing _ _ (c .before .enum-told .given .1) (c .before .before .before .next-unnamed .ensures .0) ∙ ap headOf (sym (kids-hop (entryIn _) _ _ _ _ l (c .before .before .before .before .after .ensures))) in
-    (λ s m q. number-next s (entryIn _) _ _ m _ (next-none (entryIn _) _ _ _ _ (c .before .before .before .before .before .before .before .before .pre .0 .order) (c .before .before .before .before .before .before .loop .inv .1 _ (after-number s (entryIn _) _ _ m _ q)) _ (c .before .before .before .before .before .parent-at .ensures) h (c .if1 .taken)), tt)
+    let o = c .before .before .before .before .before .before .before .before .pre .0 .order in
+    let l = rw (← q) at (o .older _ (c .before .before .before .before .before .before .loop .inv .0)) in
+    let h = is-nothing _ _ (c .before .enum-told .given .1) (c .before .before .before .next-unnamed .ensures .0) ∙ ap headOf
+    (sym (kids-hop (entryIn _) _ _ _ _ l (c .before .before .before .before .after .ensures))) in (
+      λ s m q. number-next s (entryIn _) _ _ m _
+          (next-none (entryIn _) _ _ _ _ o
+          (c .before .before .before .before .before .before .loop .inv .1 _ (after-number s (entryIn _) _ _ m _ q)) _ (c .before .before .before .before .before .parent-at .ensures) h (c .if1 .taken)),
+      tt,
+    )
 
 sub-k : tie.Need-sub-k Inv-loop μ-loop
 sub-k c =
     let p = c .before .before .before .before .before .before .before .before .pre in
     let v = c .before .before .before .before .before .before .loop .inv in
-    omega (arith, next-above (entryIn _) _ _ _ _ (p .0 .order) (v .1 _ (element-after (entryIn _) _ _ _ (p .2))) _ (c .before .before .before .before .before .parent-at .ensures) (c .if1 .left))
+    let e = c .before .before .before .before .before .parent-at .ensures in
+    omega (arith, next-above (entryIn _) _ _ _ _ (p .0 .order) (v .1 _ (element-after (entryIn _) _ _ _ (p .2))) _ e (c .if1 .left))
 
 loop-less : tie.Need-loop-less Inv-loop μ-loop
 loop-less c =
@@ -75,8 +88,10 @@ loop-again c =
     let o = p .0 .order .older _ (v .0) in
     let e = c .before .before .before .before .before .parent-at .ensures in
     let q = c .before .before .before .before .before .parent-at .ensures in
-    let l = rw (← q) at (c .before .before .before .before .before .before .before .before .pre .0 .order .older _ (c .before .before .before .before .before .before .loop .inv .0)) in
-    let h = is-nothing _ _ (c .before .enum-told .given .1) (c .before .before .before .next-unnamed .ensures .0) ∙ ap headOf (sym (kids-hop (entryIn _) _ _ _ _ l (c .before .before .before .before .after .ensures))) in
+    let o = c .before .before .before .before .before .before .before .before .pre .0 .order in
+    let l = rw (← q) at (o .older _ (c .before .before .before .before .before .before .loop .inv .0)) in
+    let h = is-nothing _ _ (c .before .enum-told .given .1) (c .before .before .before .next-unnamed .ensures .0) ∙ ap headOf
+    (sym (kids-hop (entryIn _) _ _ _ _ l (c .before .before .before .before .after .ensures))) in
     let z = next-above (entryIn _) _ _ _ _ (p .0 .order) (v .1 _ (element-after (entryIn _) _ _ _ (p .2))) _ e (c .if1 .left) in
     (omega (arith, v .0), λ ys a. next-up (entryIn _) _ _ _ ys (p .0 .order) (v .1 ys a) _ e h (c .if1 .left))
 

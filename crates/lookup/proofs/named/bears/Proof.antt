@@ -14,7 +14,9 @@ name-is-requires c κs = rw (c .before .entry-at .ensures) (c .before .before .b
 
 returns : tie.Need-returns
 unfolding nameOf
-returns c = named-child _ (entryIn _) _ _ _ (c .before .before .entry-at .result) (c .before .before .entry-at .ensures) _ (c .before .if1 .taken) (c .name-is .ensures)
+returns c =
+    named-child _ (entryIn _) _ _ _ (c .before .before .entry-at .result) (c .before .before .entry-at .ensures) _ (c .before .if1 .taken)
+    (c .name-is .ensures)
 
 returns-2 : tie.Need-returns-2
 returns-2 c = named-other _ (entryIn _) _ _ _ (c .before .entry-at .result) (c .before .entry-at .ensures) (c .if1 .left)

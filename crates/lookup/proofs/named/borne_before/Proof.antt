@@ -17,7 +17,9 @@ abbrev μ-loop : tie.MeasureT-loop
 μ-loop file table used parent to at n i₀ i = to - i
 
 loop-holds : tie.Need-loop-holds Inv-loop μ-loop
-loop-holds c = let p = c .before .before .pre in (omega arith, sought-start _ _ _ _ _ _ _ (p .1) (sym (last-none _ _ _ _ _ _ (p .0 .rows .order) (omega arith) (omega (arith, p .1, p .2)))))
+loop-holds c =
+    let p = c .before .before .pre in
+    (omega arith, sought-start _ _ _ _ _ _ _ (p .1) (sym (last-none _ _ _ _ _ _ (p .0 .rows .order) (omega arith) (omega (arith, p .1, p .2)))))
 
 alike-requires : tie.Need-alike-requires Inv-loop μ-loop
 alike-requires c κs =
@@ -38,8 +40,11 @@ loop-again : tie.Need-loop-again Inv-loop μ-loop
 loop-again c =
     let v = c .before .before .before .before .loop .inv in
     let l = c .before .before .before .loop-test .taken in
-    let r = c .after .ensures in
-    (omega (arith, r .below .low, v .0), sought-on _ _ _ _ _ _ _ _ _ l (v .0) r (v .1 .by (omega arith) ∙ sym (last-no _ _ _ _ _ (sym (c .before .before .alike .ensures) ∙ c .before .if1 .left))))
+    let r = c .after .ensures in (
+      omega (arith, r .below .low, v .0),
+      sought-on _ _ _ _ _ _ _ _ _ l (v .0) r
+          (v .1 .by (omega arith) ∙ sym (last-no _ _ _ _ _ (sym (c .before .before .alike .ensures) ∙ c .before .if1 .left))),
+    )
 
 returns-2 : tie.Need-returns-2 Inv-loop μ-loop
 returns-2 c = ap isNone (c .before .loop .inv .1 .past (c .loop-test .left))

@@ -11,13 +11,15 @@ use Rattle.lookup.proofs.named.last_alike.Statement.{statement}
 use Rattle.lookup.proofs.named.last_alike.Tie as tie
 
 abbrev Inv-loop : tie.InvT-loop
-Inv-loop file table used parent from to at n last₀ i₀ last i = (parent ≤ i) × Sought file (entryIn table) parent (lossy (units n file at)) to i (found last) × Within to last
+Inv-loop file table used parent from to at n last₀ i₀ last i =
+    (parent ≤ i) × Sought file (entryIn table) parent (lossy (units n file at)) to i (found last) × Within to last
 
 abbrev μ-loop : tie.MeasureT-loop
 μ-loop file table used parent from to at n last₀ i₀ last i = to - i
 
 loop-holds : tie.Need-loop-holds Inv-loop μ-loop
-loop-holds c = let p = c .before .before .pre in (p .1, sought-start _ _ _ _ _ _ _ (p .2) (p .5), within-more _ _ (c .before .before .args .before) (p .2) (p .6))
+loop-holds c =
+    let p = c .before .before .pre in (p .1, sought-start _ _ _ _ _ _ _ (p .2) (p .5), within-more _ _ (c .before .before .args .before) (p .2) (p .6))
 
 alike-requires : tie.Need-alike-requires Inv-loop μ-loop
 alike-requires c κs = let p = c .before .before .before .before .pre in

@@ -17,7 +17,9 @@ abbrev μ-loop : tie.MeasureT-loop
 
 loop-holds : tie.Need-loop-holds Inv-loop μ-loop
 unfolding found
-loop-holds c = let p = c .before .before .before .pre in (omega arith, sought-start _ _ _ _ _ _ _ (p .1) (sym (last-none _ _ _ _ _ _ (p .0 .rows .order) (omega arith) (omega (arith, p .1, p .2)))), tt)
+loop-holds c =
+    let p = c .before .before .before .pre in
+    (omega arith, sought-start _ _ _ _ _ _ _ (p .1) (sym (last-none _ _ _ _ _ _ (p .0 .rows .order) (omega arith) (omega (arith, p .1, p .2)))), tt)
 
 bears-requires : tie.Need-bears-requires Inv-loop μ-loop
 bears-requires c κs = let p = c .before .before .before .before .before .pre in
@@ -25,7 +27,8 @@ bears-requires c κs = let p = c .before .before .before .before .before .pre in
     (omega (arith, p .0 .rows .room, p .2, l), p .0 .lie _ (omega (arith, p .2, l)))
 
 after-requires : tie.Need-after-requires Inv-loop μ-loop
-after-requires c κs = let p = c .before .before .before .before .before .before .before .pre in (p .0 .rows, omega (arith, p .2, c .before .before .loop-test .taken))
+after-requires c κs =
+    let p = c .before .before .before .before .before .before .before .pre in (p .0 .rows, omega (arith, p .2, c .before .before .loop-test .taken))
 
 loop-less : tie.Need-loop-less Inv-loop μ-loop
 loop-less c = let r = c .after .ensures in omega (arith, r .below .low, c .before .before .before .loop-test .taken)

@@ -18,7 +18,11 @@ abbrev μ-loop : tie.MeasureT-loop
 μ-loop file table used parent end parts clean₀ part₀ clean part = part
 
 loop-holds : tie.Need-loop-holds Inv-loop μ-loop
-loop-holds c = (omega arith, rw (let z : c .before .before .args .parts - c .before .before .args .parts ≡ 0 = omega arith in z) (omega arith), λ k h. absurd (bit-none k h))
+loop-holds c = (
+  omega arith,
+  rw (let z : c .before .before .args .parts - c .before .before .args .parts ≡ 0 = omega arith in z) (omega arith),
+  λ k h. absurd (bit-none k h),
+)
 
 sub-part : tie.Need-sub-part Inv-loop μ-loop
 sub-part c = search needs
@@ -46,8 +50,11 @@ loop-less c = omega (arith, c .before .before .loop-test .taken)
 loop-again : tie.Need-loop-again Inv-loop μ-loop
 loop-again c =
     let v = c .before .before .before .loop .inv in
-    let l = c .before .before .loop-test .taken in
-    (omega (arith, v .0), bits-more _ _ _ l (v .0) (v .1), bit-set (PartLeads _ (entryIn _) _ _ _) _ _ l (v .2) (c .before .part-leads .ensures (c .if1 .taken)))
+    let l = c .before .before .loop-test .taken in (
+      omega (arith, v .0),
+      bits-more _ _ _ l (v .0) (v .1),
+      bit-set (PartLeads _ (entryIn _) _ _ _) _ _ l (v .2) (c .before .part-leads .ensures (c .if1 .taken)),
+    )
 
 loop-less-2 : tie.Need-loop-less-2 Inv-loop μ-loop
 loop-less-2 c = omega (arith, c .before .before .loop-test .taken)

@@ -13,8 +13,11 @@ entry-at-requires c κs = search needs
 
 returns : tie.Need-returns
 returns c =
-    let p = c .before .before .before .before .before .pre in
-    (p .4, λ z h. seen-more _ (entryIn _) _ _ _ _ _ _ h (λ g m. m) (λ x d u. absurd (c .if1 .taken (ap (λ (y : Entry). y .parent) (c .before .entry-at .ensures) ∙ d))))
+    let p = c .before .before .before .before .before .pre in (
+      p .4,
+      λ z h. seen-more _ (entryIn _) _ _ _ _ _ _ h (λ g m. m)
+          (λ x d u. absurd (c .if1 .taken (ap (λ (y : Entry). y .parent) (c .before .entry-at .ensures) ∙ d))),
+    )
 
 returns-2 : tie.Need-returns-2
 returns-2 c =
@@ -36,7 +39,9 @@ returns-3 c =
     (p .4, λ z h. seen-more _ (entryIn _) _ _ _ _ _ _ h (λ g m. m) (λ x d u. absurd (c .if3 .taken (rw (c .before .key-at .ensures) x))))
 
 hash-at-requires : tie.Need-hash-at-requires
-hash-at-requires c κs = let p = c .before .before .before .before .before .before .before .before .before .before .pre in (omega (arith, p .0 .rows .room, p .2), p .0 .lie _ (p .2))
+hash-at-requires c κs =
+    let p = c .before .before .before .before .before .before .before .before .before .before .pre in
+    (omega (arith, p .0 .rows .room, p .2), p .0 .lie _ (p .2))
 
 mark-requires : tie.Need-mark-requires
 mark-requires c κs = search needs

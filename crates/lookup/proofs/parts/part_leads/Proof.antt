@@ -34,7 +34,9 @@ returns : tie.Need-returns Inv-loop μ-loop
 returns c = λ z. absurd (true≢false (sym z))
 
 after-requires : tie.Need-after-requires Inv-loop μ-loop
-after-requires c κs = let p = c .before .before .before .before .before .before .before .before .pre in (p .0 .rows, omega (arith, p .1, c .before .before .before .before .loop-test .taken))
+after-requires c κs =
+    let p = c .before .before .before .before .before .before .before .before .pre in
+    (p .0 .rows, omega (arith, p .1, c .before .before .before .before .loop-test .taken))
 
 loop-less : tie.Need-loop-less Inv-loop μ-loop
 loop-less c = omega (arith, c .after .ensures .below .low, c .before .before .before .before .before .loop-test .taken)

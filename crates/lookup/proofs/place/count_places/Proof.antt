@@ -50,7 +50,8 @@ loop-again : tie.Need-loop-again Inv-loop μ-loop
 loop-again c =
     let v = c .before .before .before .before .loop .inv in
     let r = c .after .ensures in
-    let l : c .before .before .before .before .loop .i < c .before .before .before .before .before .before .before .before .before .args .used = omega (arith, c .before .before .before .loop-test .taken, v .1 .below .high) in (
+    let l : c .before .before .before .before .loop .i < c .before .before .before .before .before .before .before .before .before .args .used = omega
+    (arith, c .before .before .before .loop-test .taken, v .1 .below .high) in (
       omega (arith, v .0, r .below .low),
       v .1,
       v .2,

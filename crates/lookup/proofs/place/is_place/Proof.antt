@@ -17,7 +17,9 @@ borne-before-requires c κs =
 
 returns : tie.Need-returns
 unfolding nameOf
-returns c = place-first _ (entryIn _) _ _ (c .before .before .entry-at .result) (c .before .before .entry-at .ensures) _ (c .before .if1 .taken) (c .borne-before .ensures)
+returns c =
+    place-first _ (entryIn _) _ _ (c .before .before .entry-at .result) (c .before .before .entry-at .ensures) _ (c .before .if1 .taken)
+    (c .borne-before .ensures)
 
 returns-2 : tie.Need-returns-2
 returns-2 c = place-other _ (entryIn _) _ _ (c .before .entry-at .result) (c .before .entry-at .ensures) (c .if1 .left)

@@ -12,7 +12,8 @@ use Rattle.lookup.proofs.place.next_place.Statement.{statement}
 use Rattle.lookup.proofs.place.next_place.Tie as tie
 
 abbrev Inv-loop : tie.InvT-loop
-Inv-loop file table used parent end plain from i₀ i = (parent ≤ i) × (placeLevels file (entryIn table) used parent from ≡ placeLevels file (entryIn table) used parent i)
+Inv-loop file table used parent end plain from i₀ i =
+    (parent ≤ i) × (placeLevels file (entryIn table) used parent from ≡ placeLevels file (entryIn table) used parent i)
 
 abbrev μ-loop : tie.MeasureT-loop
 μ-loop file table used parent end plain from i₀ i = end - i
@@ -45,26 +46,34 @@ returns c =
     let v = c .before .before .before .before .before .before .before .before .loop .inv in
     let r = c .before .before .before .before .before .before .after .ensures in
     let u = c .before .before .before .place-level .ensures in
-    let l : c .before .before .before .before .before .before .before .before .loop .i < c .before .before .before .before .before .before .before .before .before .before .before .args .used = omega (arith, c .before .before .before .before .before .before .before .loop-test .taken, p .1 .below .high) in (
+    let w = c .before .before .before .before .before .before .before .before in
+    let t = c .before .before .before .before .before .before .before .loop-test .taken in
+    let l : w .loop .i < w .before .before .before .args .used = omega (arith, t, p .1 .below .high) in (
       at-within _ _ _ (c .before .k .given .1) (u .1),
       (p .1, omega (arith, v .0, r .below .low), p .3),
-      v .1 ∙ levels-found _ (entryIn _) _ _ _ _ _ l (sym (c .before .before .before .before .before .leads-at .ensures) ∙ c .before .before .before .before .if1 .taken) (is-at _ _ _ (c .before .k .given .1) (u .0)) (v .0) r,
+      v .1 ∙ levels-found _ (entryIn _) _ _ _ _ _ l
+          (sym (c .before .before .before .before .before .leads-at .ensures) ∙ c .before .before .before .before .if1 .taken)
+          (is-at _ _ _ (c .before .k .given .1) (u .0)) (v .0) r,
     )
 
 enum-told : tie.Need-enum-told Inv-loop μ-loop
 enum-told c = search needs
 
 loop-less : tie.Need-loop-less Inv-loop μ-loop
-loop-less c = omega (arith, c .before .before .before .before .before .after .ensures .below .low, c .before .before .before .before .before .before .loop-test .taken)
+loop-less c =
+    omega (arith, c .before .before .before .before .before .after .ensures .below .low, c .before .before .before .before .before .before .loop-test .taken)
 
 loop-again : tie.Need-loop-again Inv-loop μ-loop
 loop-again c =
     let p = c .before .before .before .before .before .before .before .before .before .before .pre in
     let v = c .before .before .before .before .before .before .before .loop .inv in
     let r = c .before .before .before .before .before .after .ensures in
-    let l : c .before .before .before .before .before .before .before .loop .i < c .before .before .before .before .before .before .before .before .before .before .args .used = omega (arith, c .before .before .before .before .before .before .loop-test .taken, p .1 .below .high) in (
+    let w = c .before .before .before .before .before .before .before in
+    let t = c .before .before .before .before .before .before .loop-test .taken in
+    let l : w .loop .i < w .before .before .before .args .used = omega (arith, t, p .1 .below .high) in (
       omega (arith, v .0, r .below .low),
-      v .1 ∙ levels-none _ (entryIn _) _ _ _ l (sym (c .before .before .before .before .leads-at .ensures) ∙ c .before .before .before .if1 .taken) (is-nothing _ _ (c .enum-told .given .1) (c .before .before .place-level .ensures .0))
+      v .1 ∙ levels-none _ (entryIn _) _ _ _ l (sym (c .before .before .before .before .leads-at .ensures) ∙ c .before .before .before .if1 .taken)
+          (is-nothing _ _ (c .enum-told .given .1) (c .before .before .place-level .ensures .0))
           ∙ levels-hop _ (entryIn _) _ _ _ _ (v .0) r,
     )
 
@@ -76,7 +85,8 @@ loop-again-2 c =
     let p = c .before .before .before .before .before .before .before .pre in
     let v = c .before .before .before .before .loop .inv in
     let r = c .before .before .after .ensures in
-    let l : c .before .before .before .before .loop .i < c .before .before .before .before .before .before .before .args .used = omega (arith, c .before .before .before .loop-test .taken, p .1 .below .high) in (
+    let l : c .before .before .before .before .loop .i < c .before .before .before .before .before .before .before .args .used = omega
+    (arith, c .before .before .before .loop-test .taken, p .1 .below .high) in (
       omega (arith, v .0, r .below .low),
       v .1 ∙ levels-skip _ (entryIn _) _ _ _ l (sym (c .before .leads-at .ensures) ∙ c .if1 .left) ∙ levels-hop _ (entryIn _) _ _ _ _ (v .0) r,
     )

@@ -24,8 +24,13 @@ returns c =
 
 alone-requires : tie.Need-alone-requires
 alone-requires c κs =
-    let p = c .before .before .before .before .before .pre in
-    (omega (arith, p .0 .rows .room, p .3, p .1 .below .high), p .0 .lie _ (omega (arith, p .3, p .1 .below .high)), rw (← c .before .before .entry-at .ensures) (omega (arith, c .if1 .left)), p .5 .some, p .5 .few)
+    let p = c .before .before .before .before .before .pre in (
+      omega (arith, p .0 .rows .room, p .3, p .1 .below .high),
+      p .0 .lie _ (omega (arith, p .3, p .1 .below .high)),
+      rw (← c .before .before .entry-at .ensures) (omega (arith, c .if1 .left)),
+      p .5 .some,
+      p .5 .few,
+    )
 
 level-at-requires : tie.Need-level-at-requires
 level-at-requires c κs = search needs
@@ -50,21 +55,31 @@ enum-known-j : tie.Need-enum-known-j
 enum-known-j c = search needs
 
 level-at-requires-2 : tie.Need-level-at-requires-2
-level-at-requires-2 c κs = (c .before .before .before .before .before .before .before .before .before .before .before .pre .0 .rows, at-within _ _ _ (c .before .j .given .1) (c .before .before .before .last-of .ensures .1))
+level-at-requires-2 c κs = (
+  c .before .before .before .before .before .before .before .before .before .before .before .pre .0 .rows,
+  at-within _ _ _ (c .before .j .given .1) (c .before .before .before .last-of .ensures .1),
+)
 
 returns-3 : tie.Need-returns-3
 unfolding found nameOf
 returns-3 c =
     let e = c .before .before .before .before .before .before .before .entry-at in
-    let l = is-nothing _ _ (c .enum-told .given .1) (c .before .before .last-of .ensures .0) in
-    (place-absent _ (entryIn _) _ _ _ (e .result) (e .ensures) _ (c .before .before .before .before .before .before .before .before .before .before .pre .1) (c .before .before .before .before .before .if1 .left) (rw (e .ensures) l), tt)
+    let l = is-nothing _ _ (c .enum-told .given .1) (c .before .before .last-of .ensures .0) in (
+      place-absent _ (entryIn _) _ _ _ (e .result) (e .ensures) _ (c .before .before .before .before .before .before .before .before .before .before .pre .1)
+          (c .before .before .before .before .before .if1 .left) (rw (e .ensures) l),
+      tt,
+    )
 
 returns-4 : tie.Need-returns-4
 unfolding nameOf
 returns-4 c =
     let e = c .before .before .before .before .before .before .before .before .before .entry-at in
-    let l = is-at _ _ _ (c .before .before .j .given .1) (c .before .before .before .before .last-of .ensures .0) in
-    (place-named _ (entryIn _) _ _ _ (e .result) (e .ensures) _ _ _ (c .before .before .before .before .before .before .before .before .before .before .before .before .pre .1) (c .before .before .before .before .before .before .before .if1 .left) (rw (e .ensures) l) (c .level-at2 .ensures .0 _), c .level-at2 .ensures .1)
+    let l = is-at _ _ _ (c .before .before .j .given .1) (c .before .before .before .before .last-of .ensures .0) in (
+      place-named _ (entryIn _) _ _ _ (e .result) (e .ensures) _ _ _
+          (c .before .before .before .before .before .before .before .before .before .before .before .before .pre .1)
+          (c .before .before .before .before .before .before .before .if1 .left) (rw (e .ensures) l) (c .level-at2 .ensures .0 _),
+      c .level-at2 .ensures .1,
+    )
 
 pub place-level-spec : {M : Type 1} → statement M
 place-level-spec =
