@@ -38,14 +38,15 @@ enum-known-j c = search needs
 returns : tie.Need-returns Inv-loop μ-loop
 unfolding found
 returns c =
-    let q = c .before .before .before .before .before .parent-at .ensures in
+    let e = c .before .before .before .before .before .parent-at .ensures in
+    let v = c .before .before .before .before .before .before .loop .inv in
     let o = c .before .before .before .before .before .before .before .before .pre .0 .order in
-    let l = rw (← q) at (o .older _ (c .before .before .before .before .before .before .loop .inv .0)) in
+    let l = rw (← e) at (o .older _ (v .0)) in
     let h = is-at _ _ _ (c .before .j .given .1) (c .before .before .before .next-unnamed .ensures .0) ∙ ap headOf
     (sym (kids-hop (entryIn _) _ _ _ _ l (c .before .before .before .before .after .ensures))) in (
       λ s m q. number-next s (entryIn _) _ _ m _
           (next-found (entryIn _) _ _ _ _ o
-          (c .before .before .before .before .before .before .loop .inv .1 _ (after-number s (entryIn _) _ _ m _ q)) _ (c .before .before .before .before .before .parent-at .ensures) _ h),
+          (v .1 _ (after-number s (entryIn _) _ _ m _ q)) _ e _ h),
       at-within _ _ _ (c .before .j .given .1) (c .before .before .before .next-unnamed .ensures .1),
     )
 
@@ -55,14 +56,15 @@ enum-told c = search needs
 returns-2 : tie.Need-returns-2 Inv-loop μ-loop
 unfolding found
 returns-2 c =
-    let q = c .before .before .before .before .before .parent-at .ensures in
+    let e = c .before .before .before .before .before .parent-at .ensures in
+    let v = c .before .before .before .before .before .before .loop .inv in
     let o = c .before .before .before .before .before .before .before .before .pre .0 .order in
-    let l = rw (← q) at (o .older _ (c .before .before .before .before .before .before .loop .inv .0)) in
+    let l = rw (← e) at (o .older _ (v .0)) in
     let h = is-nothing _ _ (c .before .enum-told .given .1) (c .before .before .before .next-unnamed .ensures .0) ∙ ap headOf
     (sym (kids-hop (entryIn _) _ _ _ _ l (c .before .before .before .before .after .ensures))) in (
       λ s m q. number-next s (entryIn _) _ _ m _
           (next-none (entryIn _) _ _ _ _ o
-          (c .before .before .before .before .before .before .loop .inv .1 _ (after-number s (entryIn _) _ _ m _ q)) _ (c .before .before .before .before .before .parent-at .ensures) h (c .if1 .taken)),
+          (v .1 _ (after-number s (entryIn _) _ _ m _ q)) _ e h (c .if1 .taken)),
       tt,
     )
 

@@ -12,11 +12,11 @@ use Rattle.lookup.proofs.place.next_place.Statement.{statement}
 use Rattle.lookup.proofs.place.next_place.Tie as tie
 
 abbrev Inv-loop : tie.InvT-loop
-Inv-loop file table used parent end plain from i₀ i =
+Inv-loop file table used parent end known from i₀ i =
     (parent ≤ i) × (placeLevels file (entryIn table) used parent from ≡ placeLevels file (entryIn table) used parent i)
 
 abbrev μ-loop : tie.MeasureT-loop
-μ-loop file table used parent end plain from i₀ i = end - i
+μ-loop file table used parent end known from i₀ i = end - i
 
 loop-holds : tie.Need-loop-holds Inv-loop μ-loop
 loop-holds c = (c .before .before .pre .2, refl)
