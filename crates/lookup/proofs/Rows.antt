@@ -80,16 +80,6 @@ module _ (e : ℕ → Entry) (n p : ℕ) where
   pub below-none : p ≤ n → Below e n p p
   below-none l = record { low = omega arith; high = l; inner = λ k a b. absurd (omega arith) }
 
-  pub below-more : (i : ℕ) → Below e n p i → i < n → p ≤ e i .parent → Below e n p (i + 1)
-  below-more i h l m = record { low = omega (arith, h .low); high = omega arith; inner = λ k a b. go k a b (decLt k i) }
-    where
-      go : (k : ℕ) → p ≤ k → k < i + 1 → Dec (k < i) → p ≤ e k .parent
-      go k a b (yes y) = h .inner k a y
-      go k a b (no y) = let x : k ≡ i = omega (arith, y) in rw x m
-
-  pub below-less : (r i : ℕ) → Below e n p r → p ≤ i → i ≤ r → Below e n p i
-  below-less r i h l m = record { low = l; high = omega (arith, h .high); inner = λ k a b. h .inner k a (omega arith) }
-
 -- ---- where a run ends
 
 pub run-whole : (e : ℕ → Entry) (n : ℕ) → Run e n 0 n
