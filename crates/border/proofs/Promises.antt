@@ -18,11 +18,11 @@ use Rattle.format.specs.Refused.Order.{FirstAt}
 use Rattle.format.specs.Refused.Plane.{PlaneStage, PlaneRefusal, planeOrder}
 use Rattle.format.specs.Refused.Border.{BorderFirst}
 use Rattle.format.specs.declared.Summary.{Summary}
-use Rattle.format.proofs.Answers.{Numbered, NotZero, refusal}
-use Rattle.format.proofs.Nonzero.{opened-some}
-use Rattle.format.proofs.Demands.{first, third}
-use Rattle.format.proofs.Sounds.{joined-sound}
-use Rattle.format.proofs.ChunkNames.{plane-named}
+use Rattle.format.proofs.Ground.Answers.{Numbered, NotZero, refusal}
+use Rattle.format.proofs.Calls.OpenNotZero.{opened-some}
+use Rattle.format.proofs.Demands.FirstAndThird.{first, third}
+use Rattle.format.proofs.Files.SoundSummary.{joined-sound}
+use Rattle.format.proofs.Demands.Misnamed.{plane-named}
 
 module _ (s tab : List ℕ) (scene t c z : ℕ) (buf : List ℕ) where
   abbrev number : ℕ

@@ -5,10 +5,10 @@ use mathlib.Core.List.{List, _++_}
 use native.Mathlib.Omega.{arith}
 use lib.ListN.{length, replicate, length-append, length-replicate, replicate-append-replicate}
 use lib.Seq.{drop-append-seam}
-use Rattle.format.proofs.Bytes.{leBytes-length}
-use Rattle.format.proofs.ChannelCalls.{channels-accepted, channels-refused}
-use Rattle.format.proofs.ChannelRecords.{channels-records}
-use Rattle.format.proofs.Demands.{first}
+use Rattle.format.proofs.Ground.Bytes.{leBytes-length}
+use Rattle.format.proofs.Calls.Channels.{channels-accepted, channels-refused}
+use Rattle.format.proofs.Calls.ChannelRecords.{channels-records}
+use Rattle.format.proofs.Demands.FirstAndThird.{first}
 use Rattle.format.specs.Answer.{Answer}
 use Rattle.format.specs.Bytes.{leBytes, over, zeros, each}
 use Rattle.format.specs.Trees.{roomIn}

@@ -16,9 +16,9 @@ use Rattle.format.specs.Grammar.Channels.{Empty}
 use Rattle.format.specs.declared.Entry.{Entry}
 use Rattle.format.specs.declared.Channel.{Channel}
 use Rattle.format.specs.declared.Summary.{Summary}
-use Rattle.format.proofs.ChannelCalls.{planesName, channels-number, channels-accepted, channels-refused}
-use Rattle.format.proofs.ChannelRecords.{is-empty, channels-record, channels-records, channels-emptied}
-use Rattle.format.proofs.ChunkNames.{astray-empty, channels-named}
+use Rattle.format.proofs.Calls.Channels.{planesName, channels-number, channels-accepted, channels-refused}
+use Rattle.format.proofs.Calls.ChannelRecords.{is-empty, channels-record, channels-records, channels-emptied}
+use Rattle.format.proofs.Demands.Misnamed.{astray-empty, channels-named}
 use Rattle.channels.specs.Ahead.{ahead}
 use Rattle.channels.specs.Ready.{Ready}
 use Rattle.channels.specs.declared.Prepared.{Prepared}

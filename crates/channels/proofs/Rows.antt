@@ -7,8 +7,8 @@ use lib.ListN.{length, getD, replicate, List·getD-eq-default}
 use lib.Seq.{getD-take, ext-getD}
 use Rattle.format.specs.Channels.{emptyChannel, channelOf, PlaneRecord, planeRecord, covered, fitted}
 use Rattle.format.specs.declared.Channel.{Channel}
-use Rattle.format.proofs.Covered.{plane-covers, covered-zero}
-use Rattle.format.proofs.ChannelRecords.{fitted-length}
+use Rattle.format.proofs.Stated.Covered.{plane-covers, covered-zero}
+use Rattle.format.proofs.Calls.ChannelRecords.{fitted-length}
 use Rattle.lookup.specs.Table.{entryIn, entriesIn, Holds}
 use Rattle.lookup.proofs.Reading.{holds-none}
 use Rattle.lookup.specs.Walks.{Standing, restOf}

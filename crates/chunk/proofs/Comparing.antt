@@ -11,8 +11,8 @@ use lib.Seq.{ext-getD}
 use borrow.Author.Tests.{eqb-true, eqb-false, ltb-true, ltb-false}
 use Rattle.format.specs.Bytes.{leAt, leBytes, part, ascii, same}
 use Rattle.format.specs.Map.{endMark}
-use Rattle.format.proofs.Bytes.{AllBytes, le-bytes, part-length, part-at, part-other}
-use Rattle.format.proofs.Tests.{same-true, true-same, false-same}
+use Rattle.format.proofs.Ground.Bytes.{AllBytes, le-bytes, part-length, part-at, part-other}
+use Rattle.format.proofs.Ground.Tests.{same-true, true-same, false-same}
 use Rattle.chunk.specs.Alike.{Alike, Foreign, Tells}
 
 -- a number in bytes that stand elsewhere too

@@ -8,7 +8,7 @@ use lib.Seq.{drop-cons, getD-set-same, drop-set-lt, sets, sets-eq, drop-at, take
 use native.Mathlib.Numerals.{towards-suc}
 use Rattle.format.specs.Bytes.{ascii}
 use Rattle.format.specs.Frames.{digitsFrom, decimal, frameName}
-use Rattle.format.proofs.Frames.{digits-one, digits-more, digits-before, two-digits, fewer-digits}
+use Rattle.format.proofs.Frames.Places.{digits-one, digits-more, digits-before, two-digits, fewer-digits}
 use Rattle.chunk.specs.Spelling.{Spelled, Written}
 use Rattle.chunk.specs.declared.frame.Name.{Name}
 

@@ -14,7 +14,7 @@ use lib.Pow.{pow-add}
 use lib.Dec.{eqb, ltb}
 use borrow.Author.Tests.{ltb-true, ltb-false, ne-eqb}
 use Rattle.format.specs.Map.{throughMark}
-use Rattle.format.proofs.Maps.{through-name, through-none}
+use Rattle.format.proofs.Map.Entries.{through-name, through-none}
 use Rattle.chunk.specs.Scan.{Clear, Marked, firstThen, Skipped}
 
 pub clear-none : (s : List ℕ) (a b : ℕ) → b ≤ a → Clear s a b

@@ -9,7 +9,7 @@ use lib.ListN.{length, drop}
 use Rattle.format.specs.Bytes.{leAt, part, same}
 use Rattle.format.specs.Answer.{Answer, given, refused, andThen, numberOf}
 use Rattle.format.specs.Map.{MapEntry, throughMark, endMark, mapFrom, mapEntries, mostEntries, offsetOf, prepend}
-use Rattle.format.proofs.Maps.{map-none, map-end, map-full, map-cut, map-entry, lastOf, last-start, gives, last-entry}
+use Rattle.format.proofs.Map.Entries.{map-none, map-end, map-full, map-cut, map-entry, lastOf, last-start, gives, last-entry}
 use Rattle.chunk.specs.Answers.{lookupOf, findIn}
 use borrow.Author.Tests.{eq-eqb, ne-eqb, lt-ltb, le-ltb}
 use Rattle.chunk.specs.Scan.{entryAt, Entry, Stands, nextIn}

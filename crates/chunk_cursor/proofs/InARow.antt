@@ -7,7 +7,7 @@ use borrow.Author.Tests.{lt-ltb, le-ltb}
 use lib.Dec.{lit≤}
 use lib.ListN.{length}
 use denote.Ref.{RefT, now}
-use Rattle.format.proofs.Bytes.{le-one}
+use Rattle.format.proofs.Ground.Bytes.{le-one}
 use Rattle.format.specs.Answer.{Answer}
 use Rattle.cursor.specs.Words.{to, wordOf, wordAt}
 use Rattle.cursor.specs.declared.Cursor.{Cursor}

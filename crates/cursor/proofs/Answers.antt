@@ -7,7 +7,7 @@ use native.Mathlib.Omega.{arith}
 use borrow.Author.Tests.{lt-ltb, le-ltb, le-leb, lt-leb, ne-eqb}
 use lib.ListN.{length, getD}
 use lib.Dec.{eqb}
-use Rattle.format.proofs.Trees.{records-step}
+use Rattle.format.proofs.Trees.ByRules.{records-step}
 use Rattle.format.specs.Bytes.{leAt}
 use Rattle.format.specs.Text.{units}
 use Rattle.format.specs.Trees.{at, fault, Read, ends, follow, fixedValue, textUnits, textValue, bytesValue, Children, levelValue, levelEnd, fixedLen, value, known, ChildrenAt, recordAt, records}

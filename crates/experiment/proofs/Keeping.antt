@@ -12,8 +12,8 @@ use Rattle.format.specs.Refusals as why
 use Rattle.format.specs.Loops.{Built, append, axisOf, hasAxis, judge}
 use Rattle.format.specs.Summary.{inThree, noLoop}
 use Rattle.format.specs.declared.Loop.{Loop}
-use Rattle.format.proofs.Judging.{judge-last, judge-next, judge-few, judge-room, Alike, neither, both, judge-count}
-use Rattle.format.proofs.Sounds.{three-loops}
+use Rattle.format.proofs.Loops.Judged.{judge-last, judge-next, judge-few, judge-room, Alike, neither, both, judge-count}
+use Rattle.format.proofs.Files.SoundSummary.{three-loops}
 use Rattle.experiment.specs.Kept.{Tells, accepted, turned, Last, none, one, Stands, Grown, larger}
 use Rattle.experiment.specs.declared.kept.Kept.{Kept}
 

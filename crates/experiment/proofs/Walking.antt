@@ -13,8 +13,8 @@ use Rattle.format.specs.Values.{fieldIn}
 use Rattle.format.specs.Loops.{childLevels, nothing, wrong, loop, said, Built, append, walkAll, walkOne, walk, judge, experiment}
 use Rattle.format.specs.declared.Entry.{Entry}
 use Rattle.format.specs.declared.Loop.{Loop}
-use Rattle.format.proofs.Answers.{Numbered, NotZero, refusal}
-use Rattle.format.proofs.Nonzero.{walk-some}
+use Rattle.format.proofs.Ground.Answers.{Numbered, NotZero, refusal}
+use Rattle.format.proofs.Calls.OpenNotZero.{walk-some}
 use Rattle.experiment.specs.Kept.{Tells, accepted, turned, Stands, Reached}
 use Rattle.experiment.specs.Loaded.{loadedOf, Loaded}
 use Rattle.experiment.specs.Walked.{Gives, went, stopped}

@@ -7,7 +7,7 @@ use native.Mathlib.Numerals.{add-one}
 use native.Mathlib.Omega.{arith}
 use lib.ListN.{length, getD, take, length-append}
 use lib.Seq.{sets, take-suc, take-all, length-take-le}
-use Rattle.format.proofs.Buffers.{over-stored}
+use Rattle.format.proofs.Ground.Buffers.{over-stored}
 use Rattle.format.specs.Bytes.{over, each}
 
 each-last : {A : Type 0} (f : A → List ℕ) (xs : List A) (x : A) → each f (xs ++ x ∷ []) ≡ each f xs ++ f x

@@ -10,9 +10,9 @@ use lib.Seq.{sets, length-sets}
 use lib.Dec.{eqb, ltb, lit<, lit≤}
 use lib.Ieee.{Float, binary32, ofBits, toBits}
 use borrow.Author.Tests.{eqb-true, ltb-true, ltb-false}
-use Rattle.format.proofs.Buffers.{over-stored, over-all}
-use Rattle.format.proofs.Bytes.{le-stored, le-elsewhere, leBytes-length, sets-append}
-use Rattle.format.proofs.Tests.{and-left}
+use Rattle.format.proofs.Ground.Buffers.{over-stored, over-all}
+use Rattle.format.proofs.Ground.Bytes.{le-stored, le-elsewhere, leBytes-length, sets-append}
+use Rattle.format.proofs.Ground.Tests.{and-left}
 use Rattle.format.specs.Bytes.{leAt, leBytes, over, zeros, each}
 use Rattle.format.specs.Loops.{axisNumber}
 use Rattle.format.specs.Summary.{noLoop}

@@ -9,7 +9,7 @@ use native.Mathlib.Nat.{zero-add, add-zero, sub-zero}
 use native.Mathlib.Numerals.{add-one}
 use native.Mathlib.Omega.{arith}
 use lib.ListN.{length, getElem?}
-use Rattle.format.proofs.Answers.{none≢some}
+use Rattle.format.proofs.Ground.Answers.{none≢some}
 use Rattle.lookup.specs.Table.{passing, between}
 
 pub nil-not : {A : Type 0} (xs : List ℕ) (k : ℕ) (ys : List ℕ) → [] ≡ xs ++ k ∷ ys → A

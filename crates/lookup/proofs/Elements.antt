@@ -10,9 +10,9 @@ use native.Mathlib.Numerals.{add-one, sub-one}
 use lib.ListN.{length, getElem?, take, drop, length-append}
 use lib.Dec.{eqb}
 use borrow.Author.Tests.{eq-eqb, ne-eqb, eqb-true, eqb-false}
-use Rattle.format.proofs.Tests.{and-right}
-use Rattle.format.proofs.Lookups.{leaf-by}
-use Rattle.format.proofs.Puts.{step, put-some}
+use Rattle.format.proofs.Ground.Tests.{and-right}
+use Rattle.format.proofs.Values.LevelOrLeaf.{leaf-by}
+use Rattle.format.proofs.Values.OneMoreEntry.{step, put-some}
 use Rattle.format.specs.Bytes.{same}
 use Rattle.format.specs.Values.{Value, level, list, Slot, named, unnamed, putNamed, putUnnamed, put, nameOf, slotsOf, collapse, elements, spread, valueFrom, valueIf, leaf}
 use Rattle.format.specs.declared.Entry.{Entry}

@@ -6,7 +6,7 @@ use native.Mathlib.Omega.{arith}
 use lib.ListN.{length, length-append}
 use Rattle.format.specs.Grammar.Trees.{valueStart, Head, Fixed, bool, i32, u32, i64, u64, f64, pointer, Plain, fixed, text-ended, text-cut, bytes, countAt, kidsFrom, kidsTo, levelTo, Records, counted, quiet, plain, nested}
 use Rattle.format.specs.Trees.{fixedLen, entryOf}
-use Rattle.format.proofs.Trees.{entry-is}
+use Rattle.format.proofs.Trees.ByRules.{entry-is}
 use Rattle.format.specs.declared.Entry.{Entry}
 use Rattle.lookup.specs.Table.{Lies}
 

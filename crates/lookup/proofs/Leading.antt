@@ -11,7 +11,7 @@ use lib.Dec.{eqb}
 use lib.ListN.{length}
 use lib.Pow.{pow-mono}
 use borrow.Author.Tests.{eq-eqb, ne-eqb, eqb-true}
-use Rattle.format.proofs.Tests.{and-left, and-right, same-true, same-refl}
+use Rattle.format.proofs.Ground.Tests.{and-left, and-right, same-true, same-refl}
 use Rattle.format.specs.Bytes.{same}
 use Rattle.format.specs.Values.{nameOf}
 use Rattle.format.specs.declared.Entry.{Entry}

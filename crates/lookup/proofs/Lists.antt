@@ -9,9 +9,9 @@ use native.Mathlib.Omega.{arith}
 use borrow.Author.Tests.{eq-eqb, ne-eqb}
 use lib.Dec.{eqb}
 use lib.ListN.{length}
-use Rattle.format.proofs.Text.{length-name}
-use Rattle.format.proofs.Lookups.{leaf-by}
-use Rattle.format.proofs.Puts.{step, put-some}
+use Rattle.format.proofs.Text.Units.{length-name}
+use Rattle.format.proofs.Values.LevelOrLeaf.{leaf-by}
+use Rattle.format.proofs.Values.OneMoreEntry.{step, put-some}
 use Rattle.format.specs.Bytes.{same}
 use Rattle.format.specs.Text.{units, lossy, replacedAfter}
 use Rattle.format.specs.Trees.{mostDepth}

@@ -8,8 +8,8 @@ use native.Mathlib.Omega.{arith}
 use lib.Dec.{eqb}
 use lib.ListN.{length}
 use borrow.Author.Tests.{eq-eqb, ne-eqb}
-use Rattle.format.proofs.Bytes.{same-sym}
-use Rattle.format.proofs.Tests.{or-left, or-right, same-true, same-refl}
+use Rattle.format.proofs.Ground.Bytes.{same-sym}
+use Rattle.format.proofs.Ground.Tests.{or-left, or-right, same-true, same-refl}
 use Rattle.format.specs.Bytes.{same}
 use Rattle.format.specs.Values.{Slot, named, unnamed, putNamed, putUnnamed, put, nameOf, slotsOf, find}
 use Rattle.format.specs.declared.Entry.{Entry}

@@ -5,12 +5,12 @@ use mathlib.Core.Option.{some, Option·some-injective}
 use mathlib.Core.List.{List, [], _∷_, _++_}
 use native.Mathlib.Omega.{arith}
 use lib.ListN.{length, getElem?, take, drop, length-append, length-take, length-drop, take-append-drop}
-use Rattle.format.proofs.Answers.{none≢some}
-use Rattle.format.proofs.Forest.{Forest, forest-placed, forest-nested, forest-rising, forest-inside, forest-outside, tree-forest}
-use Rattle.format.proofs.Suffices.{suffices}
-use Rattle.format.proofs.Tables.{length-table, entries-back}
+use Rattle.format.proofs.Ground.Answers.{none≢some}
+use Rattle.format.proofs.Trees.Forest.{Forest, forest-placed, forest-nested, forest-rising, forest-inside, forest-outside, tree-forest}
+use Rattle.format.proofs.Trees.MostEntries.{suffices}
+use Rattle.format.proofs.Trees.Tables.{length-table, entries-back}
 use Rattle.format.specs.Table.{AllFit}
-use Rattle.format.proofs.Trees.{tree-read}
+use Rattle.format.proofs.Trees.ByRules.{tree-read}
 use Rattle.format.specs.Bytes.{part}
 use Rattle.format.specs.Chunks.{dataIn}
 use Rattle.format.specs.Grammar.Trees.{Tree}

@@ -8,7 +8,7 @@ use native.Mathlib.Nat.{add-zero, add-suc}
 use native.Mathlib.Omega.{arith}
 use borrow.Author.Tests.{ne-eqb}
 use lib.ListN.{length, getElem?, length-append}
-use Rattle.format.proofs.Puts.{step, slots-none, slots-last}
+use Rattle.format.proofs.Values.OneMoreEntry.{step, slots-none, slots-last}
 use Rattle.format.specs.Values.{slotsOf}
 use Rattle.format.specs.declared.Entry.{Entry}
 use Rattle.lookup.specs.Table.{firsts, Ordered, Below, Run, Split}

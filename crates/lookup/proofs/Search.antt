@@ -10,8 +10,8 @@ use native.Mathlib.Decide.{decLt}
 use native.Mathlib.Omega.{arith}
 use borrow.Author.Tests.{eq-eqb, ne-eqb}
 use lib.ListN.{length}
-use Rattle.format.proofs.Answers.{none≢some}
-use Rattle.format.proofs.Puts.{find-step}
+use Rattle.format.proofs.Ground.Answers.{none≢some}
+use Rattle.format.proofs.Values.OneMoreEntry.{find-step}
 use Rattle.format.specs.Bytes.{same}
 use Rattle.format.specs.Values.{nameOf, slotsOf, find}
 use Rattle.format.specs.declared.Entry.{Entry}

@@ -4,7 +4,7 @@ use mathlib.Core.Path.{_≡_, refl, sym, ap, _∙_, subst}
 use mathlib.Core.Option.{Option, none, some}
 use mathlib.Core.List.{List}
 use lib.ListN.{length}
-use Rattle.format.proofs.Reading.{whole-read}
+use Rattle.format.proofs.Trees.PickedReading.{whole-read}
 use Rattle.format.specs.Answer.{Answer, given, refused, andThen, orRefuse}
 use Rattle.format.specs.Bytes.{part}
 use Rattle.format.specs.Refusals as why

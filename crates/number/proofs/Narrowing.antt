@@ -16,7 +16,7 @@ use lib.Ieee.Exact.{HasValue}
 use lib.Ieee.Nearest.{closest, closest-same, closest-mono, nearest-ge}
 use lib.Ieee.Scale.{round-same}
 use Rattle.format.specs.Numbers.{narrow}
-use Rattle.format.proofs.Numbers.{narrow-is}
+use Rattle.format.proofs.Numbers.Doubles.{narrow-is}
 use Rattle.number.specs.Patterns.{Narrowed}
 use Rattle.number.proofs.Reading.{at-zero, normal}
 use Rattle.number.proofs.Rounding.{size-is, rounded-bits, units-inf}

@@ -14,7 +14,7 @@ use lib.Ieee.{Float, nan, inf, Format, binary64, prec, low, hid, ones, odd, ofFi
 use lib.Ieee.Exact.{HasValue}
 use Rattle.format.specs.Values.{double, bind, mapOption}
 use Rattle.format.specs.Numbers.{unsigned, signed}
-use Rattle.format.proofs.Wholes.{sized-unsigned, between-unsigned, large-unsigned, below-unsigned, unsigned-absent, Bears, bySign, sign-signed}
+use Rattle.format.proofs.Numbers.Wholes.{sized-unsigned, between-unsigned, large-unsigned, below-unsigned, unsigned-absent, Bears, bySign, sign-signed}
 use Rattle.format.specs.Grammar.Numbers.{not-a-number, infinite}
 use Rattle.number.proofs.Reading as reading
 use Rattle.number.proofs.Reading.{ofBits-is, nan-above, clears, at-zero, normal}

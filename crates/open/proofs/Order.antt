@@ -21,7 +21,7 @@ use Rattle.format.specs.declared.Entry.{Entry}
 use Rattle.format.specs.declared.Attributes.{Attributes}
 use Rattle.format.specs.declared.Loop.{Loop}
 use Rattle.format.specs.declared.Summary.{Summary}
-use Rattle.format.proofs.Answers.{go-on, stops}
+use Rattle.format.proofs.Ground.Answers.{go-on, stops}
 use Rattle.chunk.specs.Answers.{findIn}
 use Rattle.named_tree.specs.Named.{treeUnder}
 use Rattle.named_tree.proofs.Answers.{under-listed}

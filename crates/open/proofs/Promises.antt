@@ -13,8 +13,8 @@ use Rattle.format.specs.Refused.Open.{OpenRefusal, openOrder}
 use Rattle.format.specs.Refused.Summary.{Sound, Blank}
 use Rattle.format.specs.Sentences.{Refuses, OpensExactly, Different, WholeNeeded, WholeTyped, NeededNamed, CalibrationNamed}
 use Rattle.format.specs.declared.Summary.{Summary}
-use Rattle.format.proofs.Demands.{first, third}
-use Rattle.format.proofs.Requests.{whole-numbers, chunk-names}
+use Rattle.format.proofs.Demands.FirstAndThird.{first, third}
+use Rattle.format.proofs.Demands.Requests.{whole-numbers, chunk-names}
 use Rattle.open.specs.Parts.{Says}
 use Rattle.open.specs.declared.Opened.{Opened}
 

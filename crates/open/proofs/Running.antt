@@ -21,7 +21,7 @@ use Rattle.format.specs.declared.Entry.{Entry}
 use Rattle.format.specs.declared.Attributes.{Attributes}
 use Rattle.format.specs.declared.Calibration.{Calibration}
 use Rattle.format.specs.declared.Loop.{Loop}
-use Rattle.format.proofs.Answers.{go-on, stops}
+use Rattle.format.proofs.Ground.Answers.{go-on, stops}
 use Rattle.number.specs.Readings.{real}
 use Rattle.experiment.specs.Kept as kept
 use Rattle.named_tree.specs.Named.{treeUnder}

@@ -10,8 +10,8 @@ use Rattle.format.specs.Refused.Order.{FirstAt}
 use Rattle.format.specs.Refused.Picometres.{PicometresRefusal, picometresOrder, SizeIs}
 use Rattle.format.specs.Sentences.{Refuses, AcceptedUnless, AtSome, TreeNamed}
 use Rattle.format.specs.declared.Summary.{Summary}
-use Rattle.format.proofs.PicometresCalls.{picometres-number, picometres-accepted, picometres-refused, picometres-size}
-use Rattle.format.proofs.ChunkNames.{picometres-named}
+use Rattle.format.proofs.Calls.Picometres.{picometres-number, picometres-accepted, picometres-refused, picometres-size}
+use Rattle.format.proofs.Demands.Misnamed.{picometres-named}
 use Rattle.picometres.specs.Says.{Says}
 use Rattle.picometres.specs.declared.Size.{Size}
 

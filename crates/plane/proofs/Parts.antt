@@ -12,8 +12,8 @@ use borrow.Author.Tests.{ltb-true, ltb-false}
 use borrow.Rule.Slice.PartAt.{part-to-end}
 use borrow.Rule.Slice.PartMut.{putMid, take-put, drop-put}
 use Rattle.format.specs.Bytes.{part}
-use Rattle.format.proofs.Bytes.{part-length}
-use Rattle.format.proofs.Buffers.{part-part, part-join, part-first, part-behind}
+use Rattle.format.proofs.Ground.Bytes.{part-length}
+use Rattle.format.proofs.Ground.Buffers.{part-part, part-join, part-first, part-behind}
 use Rattle.plane.specs.Parts.{Alike}
 use Rattle.plane.proofs.Rows.{turn, length-part}
 

@@ -15,8 +15,8 @@ use Rattle.format.specs.Refused.Order.{FirstAt}
 use Rattle.format.specs.Refused.Plane.{PlaneStage, PlaneRefusal, planeOrder}
 use Rattle.format.specs.declared.Range.{Range}
 use Rattle.format.specs.declared.Summary.{Summary}
-use Rattle.format.proofs.Planes.{Found, ready, plane-number, plane-accepted, plane-sample, plane-refused}
-use Rattle.format.proofs.ChunkNames.{plane-named}
+use Rattle.format.proofs.Calls.Plane.{Found, ready, plane-number, plane-accepted, plane-sample, plane-refused}
+use Rattle.format.proofs.Demands.Misnamed.{plane-named}
 use Rattle.plane.specs.Found.{Fit}
 
 -- what a frame that was found has; sheets cite it too

@@ -9,8 +9,8 @@ use lib.ListN.{length, take, drop, getD, set, length-append}
 use lib.Seq.{drop-cons, drop-drop, drop-append-add, sets}
 use borrow.Rule.Slice.PartMut.{putMid}
 use Rattle.format.specs.Bytes.{part, over}
-use Rattle.format.proofs.Bytes.{part-length}
-use Rattle.format.proofs.Buffers.{part-part, part-join, over-all, over-more, over-stored}
+use Rattle.format.proofs.Ground.Bytes.{part-length}
+use Rattle.format.proofs.Ground.Buffers.{part-part, part-join, over-all, over-more, over-stored}
 use Rattle.plane.specs.Pieces.{pieces, rows}
 
 -- turn k of n, of a bytes each, ends within them

@@ -14,8 +14,8 @@ use Rattle.format.specs.Grammar.Attributes.{Bits, eight, sixteen, thirtytwo}
 use Rattle.format.specs.declared.Range.{Range}
 use Rattle.format.specs.declared.Attributes.{Attributes}
 use Rattle.format.specs.declared.Summary.{Summary}
-use Rattle.format.proofs.Bytes.{part-length}
-use Rattle.format.proofs.Buffers.{part-part}
+use Rattle.format.proofs.Ground.Bytes.{part-length}
+use Rattle.format.proofs.Ground.Buffers.{part-part}
 use Rattle.plane.specs.Pieces.{pieces, rows}
 use Rattle.plane.specs.Found.{planeIn, Fit}
 use Rattle.plane.proofs.Rows.{turn, pieces-part, rows-joined}

@@ -7,9 +7,9 @@ use lib.ListN.{length, getD, length-append, List·getD-append}
 use lib.Seq.{drop-cons}
 use Rattle.format.specs.Bytes.{part}
 use Rattle.format.specs.Grammar.Frames.{Decimal, digit, digits}
-use Rattle.format.proofs.Bytes.{part-length, part-at}
-use Rattle.format.proofs.Buffers.{part-join}
-use Rattle.format.proofs.Names.{number, decimal-number, number-grows, digit-range}
+use Rattle.format.proofs.Ground.Bytes.{part-length, part-at}
+use Rattle.format.proofs.Ground.Buffers.{part-join}
+use Rattle.format.proofs.Frames.Names.{number, decimal-number, number-grows, digit-range}
 use Rattle.register.specs.Naming.{Digit, Spells}
 use Rattle.register.specs.declared.naming.Framed.the-variants.{Number, Other}
 

@@ -12,10 +12,10 @@ use Rattle.format.specs.Map.{MapEntry, mapFrom, mapEntries, mostEntries, prepen
 use Rattle.format.specs.Frames.{frameName}
 use Rattle.format.specs.Calls.Register.{placeBytes, registerFrom}
 use Rattle.format.specs.declared.Loop.{Loop}
-use Rattle.format.proofs.Answers.{given-inj, refused≢given}
-use Rattle.format.proofs.Names.{name-different}
-use Rattle.format.proofs.Registers.{register-length, register-same, register-stored}
-use Rattle.format.proofs.Tests.{true-same, false-same}
+use Rattle.format.proofs.Ground.Answers.{given-inj, refused≢given}
+use Rattle.format.proofs.Frames.Names.{name-different}
+use Rattle.format.proofs.Calls.Register.{register-length, register-same, register-stored}
+use Rattle.format.proofs.Ground.Tests.{true-same, false-same}
 use Rattle.chunk.specs.Scan.{entryAt, Entry}
 use Rattle.register.specs.Naming.{Names}
 use Rattle.register.specs.Taking.{Taken}

@@ -9,10 +9,10 @@ use lib.Seq.{getD-append-add, take-at}
 use Rattle.format.specs.Bytes.{part, same, ascii, begins}
 use Rattle.format.specs.Frames.{frameName}
 use Rattle.format.specs.Grammar.Frames.{Decimal, FrameName}
-use Rattle.format.proofs.Bytes.{part-length, part-at, begins-part}
-use Rattle.format.proofs.Buffers.{part-join}
-use Rattle.format.proofs.Names.{frame-name, frame-name-unique}
-use Rattle.format.proofs.Tests.{same-true, true-same}
+use Rattle.format.proofs.Ground.Bytes.{part-length, part-at, begins-part}
+use Rattle.format.proofs.Ground.Buffers.{part-join}
+use Rattle.format.proofs.Frames.Names.{frame-name, frame-name-unique}
+use Rattle.format.proofs.Ground.Tests.{same-true, true-same}
 use Rattle.register.specs.Naming.{Spells, Names}
 use Rattle.register.specs.declared.naming.Framed.{Framed}
 use Rattle.register.specs.declared.naming.Framed.the-variants.{Number, Other}

@@ -13,9 +13,9 @@ use Rattle.format.specs.Frames.{indexAt}
 use Rattle.format.specs.Calls.Register.{placeBytes, frameRecord, registerFrom}
 use Rattle.format.specs.declared.Axis.the-variants.{T, Z, P}
 use Rattle.format.specs.declared.Loop.{Loop}
-use Rattle.format.proofs.Bytes.{sets-append, leBytes-length}
-use Rattle.format.proofs.Buffers.{over-stored}
-use Rattle.format.proofs.Registers.{record-length, register-length, register-last}
+use Rattle.format.proofs.Ground.Bytes.{sets-append, leBytes-length}
+use Rattle.format.proofs.Ground.Buffers.{over-stored}
+use Rattle.format.proofs.Calls.Register.{record-length, register-length, register-last}
 
 -- xs stored, and ys behind them
 pub stored-two : (l xs ys : List ℕ) (i n : ℕ) → length xs ≡ n → {m r : List ℕ} → m ≡ sets l i xs → r ≡ sets m (i + n) ys → r ≡ sets l i (xs ++ ys)

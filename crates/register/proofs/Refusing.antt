@@ -19,11 +19,11 @@ use Rattle.format.specs.Refused.Order.{First}
 use Rattle.format.specs.Refused.Summary.{Sound}
 use Rattle.format.specs.Refused.Register.{RegisterRefusal, registerOrder, Registered}
 use Rattle.format.specs.declared.Summary.{Summary}
-use Rattle.format.proofs.Answers.{Numbered, NotZero, refusal}
-use Rattle.format.proofs.Maps.{map-numbered}
-use Rattle.format.proofs.Registers.{register-number, register-accepted, register-frames, register-refused}
-use Rattle.format.proofs.Summaries.{sound-read}
-use Rattle.format.proofs.Tests.{or-none, or-right}
+use Rattle.format.proofs.Ground.Answers.{Numbered, NotZero, refusal}
+use Rattle.format.proofs.Map.Entries.{map-numbered}
+use Rattle.format.proofs.Calls.Register.{register-number, register-accepted, register-frames, register-refused}
+use Rattle.format.proofs.Files.SummaryTest.{sound-read}
+use Rattle.format.proofs.Ground.Tests.{or-none, or-right}
 use Rattle.register.specs.Taking.{Taken}
 
 or-second : (a b : Bool) → b ≡ true → (a || b) ≡ true

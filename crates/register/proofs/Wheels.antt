@@ -9,7 +9,7 @@ use Rattle.format.specs.Grammar.Loops.{Counted}
 use Rattle.format.specs.declared.Axis.{Axis}
 use Rattle.format.specs.declared.Axis.the-variants.{T, Z, P}
 use Rattle.format.specs.declared.Loop.{Loop}
-use Rattle.format.proofs.Triples.{index-most}
+use Rattle.format.proofs.Frames.Triples.{index-most}
 use Rattle.summary.specs.Pacing.{Paced}
 use Rattle.summary.specs.declared.Pace.{Pace}
 use Rattle.register.specs.Turning.{Shows}

@@ -14,8 +14,8 @@ use lib.Pow.{pow-add, pow-pos, shl-exact}
 use lib.Ieee.{nearest}
 use lib.Ieee.Nearest.{closest, closest-same}
 use Rattle.format.specs.Numbers.{inU64}
-use Rattle.format.proofs.Wholes.{in-u64, no-u64}
-use Rattle.format.proofs.Closest.{under-half, over-half}
+use Rattle.format.proofs.Numbers.Wholes.{in-u64, no-u64}
+use Rattle.format.proofs.Numbers.Closest.{under-half, over-half}
 
 -- ---- less than a half is 0
 

@@ -13,8 +13,8 @@ use lib.Ieee.{inf, nan, binary64, ofFields, ofBits}
 use lib.Ieee.Nearest.{closest, closest-same, nearest-ge}
 use Rattle.format.specs.Numbers.{inU64}
 use Rattle.format.specs.Picometres.{picometres}
-use Rattle.format.proofs.Wholes.{no-u64}
-use Rattle.format.proofs.Picometres.{picometres-at}
+use Rattle.format.proofs.Numbers.Wholes.{no-u64}
+use Rattle.format.proofs.Numbers.Picometres.{picometres-at}
 use Rattle.number.proofs.Reading.{at-zero, normal}
 
 -- the picometres that q / 2^n micrometres are

@@ -12,10 +12,10 @@ use Rattle.format.specs.Attributes.{sampleBytes}
 use Rattle.format.specs.Sheets.{FieldType, SHORT, LONG, RATIONAL, TiffField, short, long, rational}
 use Rattle.format.specs.Sheets.{tiffHeader, valueBytes, typeNumber, fieldBytes, tiffDirectory, rationalBytes, sampleFormat, sheetFields, sheetHead}
 use Rattle.format.specs.Grammar.Attributes.{Bits, eight, sixteen, thirtytwo}
-use Rattle.format.proofs.Tests.{ltb-alike}
-use Rattle.format.proofs.Bytes.{sets-append}
-use Rattle.format.proofs.Buffers.{over-stored}
-use Rattle.format.proofs.Sheets.{head-length, factors}
+use Rattle.format.proofs.Ground.Tests.{ltb-alike}
+use Rattle.format.proofs.Ground.Bytes.{sets-append}
+use Rattle.format.proofs.Ground.Buffers.{over-stored}
+use Rattle.format.proofs.Calls.SheetBytes.{head-length, factors}
 use Rattle.sheet.specs.Fields.{imageFields, stripFields, resolutionFields}
 use Rattle.sheet.specs.Fits.{Fits}
 

@@ -16,8 +16,8 @@ use Rattle.format.specs.Refused.Sheet.{SheetStage, SheetRefusal, sheetOrder}
 use Rattle.format.specs.Sentences.{Refuses, AcceptedUnless, AtSome, SheetWritten, PlaneOn, FrameNamed}
 use Rattle.format.specs.declared.Range.{Range}
 use Rattle.format.specs.declared.Summary.{Summary}
-use Rattle.format.proofs.Requests.{sheets, chunk-names}
-use Rattle.format.proofs.SheetCalls.{Fitting, fitting}
+use Rattle.format.proofs.Demands.Requests.{sheets, chunk-names}
+use Rattle.format.proofs.Calls.Sheet.{Fitting, fitting}
 use Rattle.plane.specs.Found.{Fit}
 use Rattle.plane.proofs.Promises.{found-inside, found-fit}
 use Rattle.sheet.specs.Fits.{Fits}

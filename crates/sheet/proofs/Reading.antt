@@ -17,11 +17,11 @@ use Rattle.format.specs.Calls.Sheet.{laidAs, sheetFrom, sheetInto, sheetReadBy,
 use Rattle.format.specs.Refused.Order.{First}
 use Rattle.format.specs.Refused.Sheet.{SheetReadRefusal, sheetReadOrder}
 use Rattle.format.specs.Sentences.{Refuses, AcceptedUnless, SheetTaken, TurnedAway, ZeroSizes}
-use Rattle.format.proofs.Tests.{or-left, or-right}
-use Rattle.format.proofs.Requests.{sheets}
-use Rattle.format.proofs.Summaries.{bits-good, good-bits}
-use Rattle.format.proofs.Buffers.{over-all}
-use Rattle.format.proofs.Sheets.{head-length, laid-ruled, size-is-bytes, bits-of-bytes}
+use Rattle.format.proofs.Ground.Tests.{or-left, or-right}
+use Rattle.format.proofs.Demands.Requests.{sheets}
+use Rattle.format.proofs.Files.SummaryTest.{bits-good, good-bits}
+use Rattle.format.proofs.Ground.Buffers.{over-all}
+use Rattle.format.proofs.Calls.SheetBytes.{head-length, laid-ruled, size-is-bytes, bits-of-bytes}
 use Rattle.sheet.specs.Fits.{Fits}
 
 -- ---- the layout

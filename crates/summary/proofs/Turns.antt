@@ -8,8 +8,8 @@ use native.Mathlib.Numerals.{add-one}
 use native.Mathlib.Omega.{arith}
 use lib.Dec.{eqb, ltb}
 use lib.ListN.{length, drop, length-drop, drop-of-length-le}
-use Rattle.format.proofs.Frames.{Below, one}
-use Rattle.format.proofs.Names.{frames-most}
+use Rattle.format.proofs.Frames.Places.{Below, one}
+use Rattle.format.proofs.Frames.Names.{frames-most}
 use Rattle.format.specs.Loops.{mostCount, sameAxis, hasAxis}
 use Rattle.format.specs.Frames.{countOf, indexOf, seqFrom, frames, indexAt}
 use Rattle.format.specs.Summary.{badLoops}

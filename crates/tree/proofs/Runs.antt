@@ -12,9 +12,9 @@ use borrow.Author.Tests.{leb-true, leb-false}
 use lib.Dec.{leb}
 use lib.ListN.{length, take, length-append}
 use lib.Seq.{sets, length-sets}
-use Rattle.format.proofs.Bytes.{sets-append}
-use Rattle.format.proofs.Tables.{table-append, length-table, within-whole, within-full}
-use Rattle.format.proofs.Trees.{then-more, value-some}
+use Rattle.format.proofs.Ground.Bytes.{sets-append}
+use Rattle.format.proofs.Trees.Tables.{table-append, length-table, within-whole, within-full}
+use Rattle.format.proofs.Trees.ByRules.{then-more, value-some}
 use Rattle.format.specs.Refusals as why
 use Rattle.format.specs.Trees.{Stop, at, fault, Read, ends, follow, then, childrenOr9, levelEnd, value, entryOf, records, childrenAt, roomIn, within, entryBytes, tableBytes}
 use Rattle.format.specs.declared.Entry.{Entry}

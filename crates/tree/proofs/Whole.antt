@@ -6,7 +6,7 @@ use native.Mathlib.Omega.{arith}
 use native.Mathlib.Nat.{sub-zero}
 use lib.ListN.{length, take, drop}
 use lib.Seq.{take-at}
-use Rattle.format.proofs.Tables.{length-table, sets-over, within-whole, entries-back}
+use Rattle.format.proofs.Trees.Tables.{length-table, sets-over, within-whole, entries-back}
 use Rattle.format.specs.Answer.{given, refused}
 use Rattle.format.specs.Bytes.{over}
 use Rattle.format.specs.Trees.{at, fault, Read, read, roomIn, within, wholeTree, tableBytes}

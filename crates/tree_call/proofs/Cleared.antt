@@ -7,7 +7,7 @@ use native.Mathlib.Omega.{arith}
 use lib.ListN.{length, take, drop}
 use lib.Seq.{drop-drop, drop-length}
 use borrow.Rule.Slice.PartMut.{midOf, putMid, mid-len}
-use Rattle.format.proofs.Tables.{length-table}
+use Rattle.format.proofs.Trees.Tables.{length-table}
 use Rattle.format.specs.Bytes.{over, zeros}
 use Rattle.format.specs.Trees.{tableBytes}
 use Rattle.format.specs.declared.Entry.{Entry}

@@ -15,8 +15,8 @@ use Rattle.format.specs.Refused.Order.{FirstAt}
 use Rattle.format.specs.Refused.Tree.{TreeStage, TreeRefusal, treeOrder}
 use Rattle.format.specs.declared.Entry.{Entry}
 use Rattle.format.specs.declared.Summary.{Summary}
-use Rattle.format.proofs.TreeCalls.{tree-number, tree-accepted, tree-table, tree-refused}
-use Rattle.format.proofs.ChunkNames.{tree-named}
+use Rattle.format.proofs.Calls.Tree.{tree-number, tree-accepted, tree-table, tree-refused}
+use Rattle.format.proofs.Demands.Misnamed.{tree-named}
 use Rattle.chunk.specs.Answers.{findIn}
 use Rattle.lookup.proofs.Rows.{length-firsts}
 use Rattle.named_tree.specs.Named.{treeUnder}

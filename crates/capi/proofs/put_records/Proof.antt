@@ -10,7 +10,7 @@ use Rattle.channels.proofs.Rows.{On, on-first, on-next, on-row}
 use Rattle.layout.proofs.Each.{none-stored, next-stored, all-stored}
 use Rattle.layout.specs.Layout.{channelBytes, channelRowBytes}
 use Rattle.capi.proofs.Rows.{channel-length}
-use Rattle.format.proofs.ChannelRecords.{fitted-length}
+use Rattle.format.proofs.Calls.ChannelRecords.{fitted-length}
 use Rattle.capi.proofs.put_records.Statement.{statement}
 use Rattle.capi.proofs.put_records.Tie as tie
 

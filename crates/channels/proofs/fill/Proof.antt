@@ -62,7 +62,7 @@ use Rattle.channels.specs.Ahead.{ahead, Stands, Follows}
 use Rattle.channels.specs.declared.planes.Planes.{Planes}
 use Rattle.channels.proofs.Again.{LentAgain, lends-again, comes-back}
 use Rattle.channels.proofs.Lay.{lay, lay-zero, lay-length, lay-next, lay-end}
-use Rattle.format.proofs.ChannelRecords.{fitted-length}
+use Rattle.format.proofs.Calls.ChannelRecords.{fitted-length}
 use Rattle.channels.proofs.Rows.{On, on-first, on-next, on-row}
 use Rattle.channels.proofs.planes.Planes as P
 use Rattle.channels.proofs.planes.Planes.Laws as P′

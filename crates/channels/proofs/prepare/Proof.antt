@@ -6,7 +6,7 @@ use mathlib.Core.List.{List}
 use denote.Ref.{now}
 use Rattle.format.specs.Bytes.{ascii}
 use Rattle.format.specs.Summary.{badSummary, mapOf}
-use Rattle.format.proofs.Summaries.{sound-read}
+use Rattle.format.proofs.Files.SummaryTest.{sound-read}
 use Rattle.chunk.specs.Answers.{lookupOf, findIn}
 use Rattle.channels.proofs.Readying.{planesName, ready-refused, ready-same, bad-summary, no-map, short-row, read-on}
 use borrow.Author.Needs.{needs}

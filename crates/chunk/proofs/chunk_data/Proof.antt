@@ -2,7 +2,7 @@
 use mathlib.Core.Path.{sym, _∙_}
 use native.Mathlib.Omega.{arith}
 use borrow.Author.Tests.{not-true, not-false}
-use Rattle.format.proofs.Chunks.{cut-head, wrong-mark, cut-name, wrong-name, cut-data, whole-chunk}
+use Rattle.format.proofs.Map.Chunks.{cut-head, wrong-mark, cut-name, wrong-name, cut-data, whole-chunk}
 use borrow.Author.Needs.{needs}
 use Rattle.chunk.proofs.chunk_data.Statement.{statement}
 use Rattle.chunk.proofs.chunk_data.Tie as tie

@@ -10,7 +10,7 @@ use Rattle.format.specs.Answer.{Answer}
 use Rattle.format.specs.Chunks.{chunkData}
 use Rattle.format.specs.Map.{mapName, mapRange}
 use Rattle.format.specs.declared.Range.{Range}
-use Rattle.format.proofs.Maps.{range-short, range-old, range-other, range-bare, range-none, range-chunk}
+use Rattle.format.proofs.Map.Entries.{range-short, range-old, range-other, range-bare, range-none, range-chunk}
 use borrow.Author.Needs.{needs}
 use Rattle.chunk.proofs.locate.Statement.{statement}
 use Rattle.chunk.proofs.locate.Tie as tie

@@ -1,6 +1,6 @@
 -- Two bytes are one and one.
 use native.Mathlib.Omega.{arith}
-use Rattle.format.proofs.Bytes.{le-one, le-join}
+use Rattle.format.proofs.Ground.Bytes.{le-one, le-join}
 use borrow.Author.Needs.{needs}
 use Rattle.cursor.proofs.le2.Statement.{statement}
 use Rattle.cursor.proofs.le2.Tie as tie

@@ -1,6 +1,6 @@
 -- Four bytes are two and two.
 use native.Mathlib.Omega.{arith}
-use Rattle.format.proofs.Bytes.{le-join}
+use Rattle.format.proofs.Ground.Bytes.{le-join}
 use borrow.Author.Needs.{needs}
 use Rattle.cursor.proofs.le4.Statement.{statement}
 use Rattle.cursor.proofs.le4.Tie as tie

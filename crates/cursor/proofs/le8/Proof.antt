@@ -1,6 +1,6 @@
 -- Eight bytes are four and four.
 use native.Mathlib.Omega.{arith}
-use Rattle.format.proofs.Bytes.{le-join}
+use Rattle.format.proofs.Ground.Bytes.{le-join}
 use borrow.Author.Needs.{needs}
 use Rattle.cursor.proofs.le8.Statement.{statement}
 use Rattle.cursor.proofs.le8.Tie as tie

@@ -1,5 +1,5 @@
 -- The four low bytes, then the four high ones.
-use Rattle.format.proofs.Bytes.{stored-join}
+use Rattle.format.proofs.Ground.Bytes.{stored-join}
 use borrow.Author.Needs.{needs}
 use Rattle.cursor.proofs.put8.Statement.{statement}
 use Rattle.cursor.proofs.put8.Tie as tie

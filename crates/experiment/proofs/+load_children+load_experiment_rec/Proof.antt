@@ -5,7 +5,7 @@ use native.Mathlib.Omega.{arith}
 use lib.ListN.{length}
 use Rattle.format.specs.Bytes.{ascii}
 use Rattle.format.specs.Loops.{childLevels, walk}
-use Rattle.format.proofs.Nonzero.{walk-some}
+use Rattle.format.proofs.Calls.OpenNotZero.{walk-some}
 use Rattle.lookup.specs.Table.{entryIn, entriesIn}
 use Rattle.lookup.specs.Walks.{Standing, restOf, NextOf}
 use Rattle.lookup.specs.declared.Next.the-variants.{Child}

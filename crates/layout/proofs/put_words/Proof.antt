@@ -5,7 +5,7 @@ use native.Mathlib.Omega.{arith}
 use lib.ListN.{length, getD, take}
 use lib.Seq.{length-sets}
 use borrow.Author.Needs.{needs}
-use Rattle.format.proofs.Bytes.{leBytes-length}
+use Rattle.format.proofs.Ground.Bytes.{leBytes-length}
 use Rattle.format.specs.Bytes.{leBytes, over, each}
 use Rattle.layout.proofs.Each.{none-stored, next-stored, all-stored}
 use Rattle.layout.proofs.Laws.{next-word}

@@ -3,7 +3,7 @@ use Prim.Native.Nat.{_≤_, _-_}
 use native.Mathlib.Omega.{arith}
 use borrow.Author.Needs.{needs}
 use borrow.Author.Tests.{not-false}
-use Rattle.format.proofs.Text.{Stand, stand-more}
+use Rattle.format.proofs.Text.Units.{Stand, stand-more}
 use Rattle.name.proofs.common.Statement.{statement}
 use Rattle.name.proofs.common.Tie as tie
 

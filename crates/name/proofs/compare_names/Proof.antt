@@ -6,8 +6,8 @@ use borrow.Author.Count.{below-more}
 use borrow.Author.Needs.{needs}
 use borrow.Author.Tests.{eqb-true, eqb-false, not-true, not-false}
 use Rattle.format.specs.Text.{units, lossy}
-use Rattle.format.proofs.Text.{length-name}
-use Rattle.format.proofs.Compared.{Alike, told-lengths, told-alike, told-differ, told-next, reaches-less}
+use Rattle.format.proofs.Text.Units.{length-name}
+use Rattle.format.proofs.Text.Compared.{Alike, told-lengths, told-alike, told-differ, told-next, reaches-less}
 use Rattle.name.proofs.compare_names.Statement.{statement}
 use Rattle.name.proofs.compare_names.Tie as tie
 

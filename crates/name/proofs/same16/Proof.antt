@@ -7,7 +7,7 @@ use lib.ListN.{getD}
 use borrow.Author.Count.{below-more}
 use borrow.Author.Needs.{needs}
 use borrow.Author.Tests.{eqb-true}
-use Rattle.format.proofs.Tests.{and-left, and-right}
+use Rattle.format.proofs.Ground.Tests.{and-left, and-right}
 use Rattle.name.proofs.same16.Statement.{statement}
 use Rattle.name.proofs.same16.Tie as tie
 

@@ -7,8 +7,8 @@ use borrow.Author.Needs.{needs}
 use borrow.Author.Tests.{eqb-true, eqb-false, not-true, not-false}
 use Rattle.format.specs.Text.{units, lossy}
 use Rattle.format.specs.declared.Comparison.{Comparison}
-use Rattle.format.proofs.Text.{length-name}
-use Rattle.format.proofs.Compared.{Alike, told-alike, told-differ, as-before}
+use Rattle.format.proofs.Text.Units.{length-name}
+use Rattle.format.proofs.Text.Compared.{Alike, told-alike, told-differ, as-before}
 use Rattle.name.proofs.same_from.Statement.{statement}
 use Rattle.name.proofs.same_from.Tie as tie
 

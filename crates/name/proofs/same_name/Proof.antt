@@ -5,9 +5,9 @@ use lib.Dec.{ltb}
 use borrow.Author.Needs.{needs}
 use borrow.Author.Tests.{eqb-false, ltb-true, not-true}
 use Rattle.format.specs.declared.Comparison.{Comparison}
-use Rattle.format.proofs.Tests.{and-left, and-right}
-use Rattle.format.proofs.Text.{length-name, plain-name-unit, name-unit-plain}
-use Rattle.format.proofs.Compared.{told-lengths, told-alike, told-differ, as-before, stand-alike}
+use Rattle.format.proofs.Ground.Tests.{and-left, and-right}
+use Rattle.format.proofs.Text.Units.{length-name, plain-name-unit, name-unit-plain}
+use Rattle.format.proofs.Text.Compared.{told-lengths, told-alike, told-differ, as-before, stand-alike}
 use Rattle.name.proofs.same_name.Statement.{statement}
 use Rattle.name.proofs.same_name.Tie as tie
 

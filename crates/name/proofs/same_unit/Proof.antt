@@ -1,7 +1,7 @@
 -- `same_unit` compares a unit below the surrogates as it stands, and others as they are replaced. Assumes nothing.
 use mathlib.Core.Path.{refl}
-use Rattle.format.proofs.Text.{plain-name-unit, plain-eqb}
-use Rattle.format.proofs.Compared.{reaches-unit}
+use Rattle.format.proofs.Text.Units.{plain-name-unit, plain-eqb}
+use Rattle.format.proofs.Text.Compared.{reaches-unit}
 use Rattle.name.proofs.same_unit.Statement.{statement}
 use Rattle.name.proofs.same_unit.Tie as tie
 

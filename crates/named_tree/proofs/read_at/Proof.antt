@@ -2,7 +2,7 @@
 use mathlib.Core.Path.{ap, _∙_}
 use native.Mathlib.Omega.{arith}
 use lib.ListN.{length}
-use Rattle.format.proofs.Bytes.{part-length}
+use Rattle.format.proofs.Ground.Bytes.{part-length}
 use Rattle.format.specs.Refusals as why
 use Rattle.named_tree.proofs.Answers.{refused-reads, no-chunk, chunk-reads}
 use borrow.Author.Needs.{needs}

@@ -3,7 +3,7 @@ use mathlib.Core.Path.{sym, ap, _∙_}
 use mathlib.Core.Bool.{Bool, _&&_}
 use lib.Ieee.{ofBits, lt}
 use Rattle.format.specs.Numbers as Numbers
-use Rattle.format.proofs.Numbers.{finite-below}
+use Rattle.format.proofs.Numbers.Doubles.{finite-below}
 use borrow.Author.Needs.{needs}
 use Rattle.number.proofs.usable.Statement.{statement}
 use Rattle.number.proofs.usable.Tie as tie

@@ -1,7 +1,7 @@
 -- `z_class`: the tests in turn.
 use mathlib.Core.Path.{sym, _∙_}
 use Rattle.format.specs.Calibration.{zClass}
-use Rattle.format.proofs.Numbers.{least-bits, most-bits}
+use Rattle.format.proofs.Numbers.Doubles.{least-bits, most-bits}
 use borrow.Author.Needs.{needs}
 use Rattle.number.proofs.z_class.Statement.{statement}
 use Rattle.number.proofs.z_class.Tie as tie

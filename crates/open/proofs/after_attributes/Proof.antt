@@ -1,6 +1,6 @@
 -- `after_attributes`: the tree's refusal, or the experiment in it and what follows.
 use mathlib.Core.Path.{refl}
-use Rattle.format.proofs.Answers.{go-on, stops}
+use Rattle.format.proofs.Ground.Answers.{go-on, stops}
 use Rattle.open.specs.Parts.{afterAttributes}
 use Rattle.open.proofs.Saying.{says-as}
 use Rattle.format.specs.Bytes.{ascii}

@@ -1,6 +1,6 @@
 -- `after_map`: the attributes' refusal, or what follows them.
 use mathlib.Core.Path.{refl, sym}
-use Rattle.format.proofs.Answers.{go-on, stops}
+use Rattle.format.proofs.Ground.Answers.{go-on, stops}
 use Rattle.open.specs.Parts.{afterMap}
 use Rattle.open.proofs.Saying.{says-as}
 use borrow.Author.Needs.{needs}

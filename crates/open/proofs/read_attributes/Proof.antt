@@ -1,6 +1,6 @@
 -- `read_attributes`: the tree's refusal, or what its entries say.
 use mathlib.Core.Path.{refl, sym, _∙_}
-use Rattle.format.proofs.Answers.{go-on, stops}
+use Rattle.format.proofs.Ground.Answers.{go-on, stops}
 use Rattle.format.specs.Bytes.{ascii}
 use borrow.Author.Needs.{needs}
 use Rattle.open.proofs.read_attributes.Statement.{statement}

@@ -7,8 +7,8 @@ use denote.Ref.{now}
 use Rattle.format.specs.Frames.{seqIndex, frameName}
 use Rattle.format.specs.Summary.{loopsOf, mapOf, badSummary}
 use Rattle.format.specs.Calls.Plane.{badIndex}
-use Rattle.format.proofs.Summaries.{sound-read}
-use Rattle.format.proofs.Planes.{index-read}
+use Rattle.format.proofs.Files.SummaryTest.{sound-read}
+use Rattle.format.proofs.Calls.Plane.{index-read}
 use Rattle.chunk.specs.Answers.{lookupOf, findIn}
 use Rattle.plane.specs.Found.{foundAt}
 use Rattle.plane.proofs.Finding.{bad-summary, bad-index, too-large, no-map, no-frame, at-offset}

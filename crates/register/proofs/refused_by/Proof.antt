@@ -6,7 +6,7 @@ use denote.Ref.{now}
 use Rattle.format.specs.Answer.{numberOf}
 use Rattle.format.specs.Map.{mapEntries}
 use Rattle.format.specs.Summary.{mapOf, badSummary}
-use Rattle.format.proofs.Summaries.{sound-read}
+use Rattle.format.proofs.Files.SummaryTest.{sound-read}
 use Rattle.register.proofs.Refusing.{bad-summary, bad-map, of-room}
 use Rattle.register.proofs.refused_by.Statement.{statement}
 use Rattle.register.proofs.refused_by.Tie as tie

@@ -8,7 +8,7 @@ use lib.IntN.{pos}
 use lib.Pow.{pow-mono}
 use lib.Ieee.Nearest.{closest}
 use Rattle.format.specs.Numbers.{inU64}
-use Rattle.format.proofs.Wholes.{in-u64}
+use Rattle.format.proofs.Numbers.Wholes.{in-u64}
 use Rattle.scale.proofs.Halves.{nothing-left}
 use borrow.Author.Needs.{needs}
 use Rattle.scale.proofs.scaled.Statement.{statement}

@@ -7,7 +7,7 @@ use denote.Ref.{now}
 use Rattle.format.specs.Answer.{given}
 use Rattle.format.specs.Sheets.{sheetHead}
 use Rattle.format.specs.Calls.Sheet.{sheetFor}
-use Rattle.format.proofs.Sheets.{head-length}
+use Rattle.format.proofs.Calls.SheetBytes.{head-length}
 use Rattle.plane.proofs.Samples.{data-length, rows-length, plane-rows}
 use Rattle.sheet.proofs.Promises.{refused-sheet, written-sheet, inside, prefix, head-room, head-fits, fit, headed-length, strip-length, strip-stored}
 use borrow.Author.Needs.{needs}

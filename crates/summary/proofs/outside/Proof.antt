@@ -7,7 +7,7 @@ use lib.Dec.{ltb}
 use lib.ListN.{length}
 use denote.Ref.{now}
 use borrow.Author.Tests.{lt-ltb}
-use Rattle.format.proofs.Tests.{ltb-alike}
+use Rattle.format.proofs.Ground.Tests.{ltb-alike}
 use Rattle.summary.proofs.outside.Statement.{statement}
 use Rattle.summary.proofs.outside.Tie as tie
 

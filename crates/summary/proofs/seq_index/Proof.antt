@@ -6,7 +6,7 @@ use lib.ListN.{drop}
 use Rattle.format.specs.Loops.{mostCount}
 use Rattle.format.specs.Frames.{indexOf, seqFrom, seqIndex}
 use Rattle.format.specs.Summary.{loopsOf}
-use Rattle.format.proofs.Frames.{index, within-below}
+use Rattle.format.proofs.Frames.Places.{index, within-below}
 use Rattle.summary.proofs.Turns.{past, counted-drop, below-drop, counted-first, below-first, grows, seq-on}
 use Rattle.summary.proofs.seq_index.Statement.{statement}
 use Rattle.summary.proofs.seq_index.Tie as tie

@@ -1,7 +1,7 @@
 -- `tree::put_entry` stores the bytes of an entry.
 use mathlib.Core.Path.{sym}
 use native.Mathlib.Omega.{arith}
-use Rattle.format.proofs.Tables.{sets-entry}
+use Rattle.format.proofs.Trees.Tables.{sets-entry}
 use borrow.Author.Needs.{needs}
 use Rattle.tree.proofs.put_entry.Statement.{statement}
 use Rattle.tree.proofs.put_entry.Tie as tie

@@ -7,7 +7,7 @@ use mathlib.Core.List.{List}
 use lib.ListN.{length}
 use Rattle.format.specs.Summary.{badSummary}
 use Rattle.format.specs.Trees.{roomIn}
-use Rattle.format.proofs.Summaries.{sound-read}
+use Rattle.format.proofs.Files.SummaryTest.{sound-read}
 use Rattle.chunk.specs.Answers.{findIn}
 use Rattle.named_tree.proofs.Answers.{refused-reads}
 use Rattle.tree_call.proofs.Promises.{bad-summary, good-summary}

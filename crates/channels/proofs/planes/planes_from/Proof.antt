@@ -5,7 +5,7 @@ use mathlib.Core.List.{[], map}
 use native.Mathlib.Omega.{arith}
 use denote.Ref.{now}
 use Rattle.format.specs.Channels.{planeRecord}
-use Rattle.format.proofs.Covered.{plane-covers}
+use Rattle.format.proofs.Stated.Covered.{plane-covers}
 use Rattle.lookup.specs.Table.{entryIn, entriesIn}
 use Rattle.lookup.specs.Walks.{restOf, NextOf}
 use Rattle.lookup.specs.declared.Next.the-variants.{Child}

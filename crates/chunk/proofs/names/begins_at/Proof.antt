@@ -1,6 +1,6 @@
 -- Too short, or compared over the length of e.
 use mathlib.Core.Path.{sym, _∙_}
-use Rattle.format.proofs.Bytes.{begins-short, begins-part}
+use Rattle.format.proofs.Ground.Bytes.{begins-short, begins-part}
 use borrow.Author.Needs.{needs}
 use Rattle.chunk.proofs.names.begins_at.Statement.{statement}
 use Rattle.chunk.proofs.names.begins_at.Tie as tie

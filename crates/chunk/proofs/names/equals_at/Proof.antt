@@ -1,6 +1,6 @@
 -- Of another length, or compared.
 use mathlib.Core.Path.{sym}
-use Rattle.format.proofs.Bytes.{part-other}
+use Rattle.format.proofs.Ground.Bytes.{part-other}
 use borrow.Author.Needs.{needs}
 use Rattle.chunk.proofs.names.equals_at.Statement.{statement}
 use Rattle.chunk.proofs.names.equals_at.Tie as tie

@@ -2,7 +2,7 @@
 use mathlib.Core.Path.{sym}
 use Rattle.format.specs.Bytes.{ascii}
 use Rattle.format.specs.Map.{endMark}
-use Rattle.format.proofs.Bytes.{part-other}
+use Rattle.format.proofs.Ground.Bytes.{part-other}
 use borrow.Author.Needs.{needs}
 use Rattle.chunk.proofs.names.is_end.Statement.{statement}
 use Rattle.chunk.proofs.names.is_end.Tie as tie

@@ -1,5 +1,5 @@
 -- A reading step of width 1.
-use Rattle.format.proofs.Bytes.{le-one}
+use Rattle.format.proofs.Ground.Bytes.{le-one}
 use Rattle.cursor.proofs.Reading.{cut, got}
 use borrow.Author.Needs.{needs}
 use Rattle.cursor.proofs.Cursor.read_u8.Statement.{statement}

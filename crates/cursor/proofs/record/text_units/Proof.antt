@@ -4,7 +4,7 @@ use mathlib.Core.Path.{sym, _∙_}
 use native.Mathlib.Omega.{arith}
 use borrow.Author.Count.{below-more}
 use borrow.Author.Needs.{needs}
-use Rattle.format.proofs.Trees.{text-count}
+use Rattle.format.proofs.Trees.ByRules.{text-count}
 use Rattle.format.specs.Grammar.Trees.{Units}
 use Rattle.cursor.proofs.record.text_units.Statement.{statement}
 use Rattle.cursor.proofs.record.text_units.Tie as tie

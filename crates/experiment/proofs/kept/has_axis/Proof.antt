@@ -12,7 +12,7 @@ use Rattle.format.specs.Loops.{axisNumber, hasAxis}
 use Rattle.format.specs.Summary.{noLoop}
 use Rattle.format.specs.declared.Axis.{Axis}
 use Rattle.format.specs.declared.Loop.{Loop}
-use Rattle.format.proofs.Judging.{has-at, has-none}
+use Rattle.format.proofs.Loops.Judged.{has-at, has-none}
 use Rattle.experiment.proofs.kept.has_axis.Statement.{statement}
 use Rattle.experiment.proofs.kept.has_axis.Tie as tie
 

@@ -4,7 +4,7 @@ use mathlib.Core.Path.{_≡_, _∙_}
 use native.Mathlib.Omega.{arith}
 use lib.ListN.{drop}
 use Rattle.format.specs.Text.{units, lossy}
-use Rattle.format.proofs.Text.{length-name}
+use Rattle.format.proofs.Text.Units.{length-name}
 use Rattle.lookup.specs.Hash.{hashFrom, hashOf}
 use Rattle.lookup.proofs.Hashes.{hash-start, hash-more, hash-end}
 use borrow.Author.Needs.{needs}

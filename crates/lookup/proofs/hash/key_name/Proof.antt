@@ -1,7 +1,7 @@
 -- The first unit and the last.
 use mathlib.Core.Path.{refl}
 use native.Mathlib.Omega.{arith}
-use Rattle.format.proofs.Text.{length-name}
+use Rattle.format.proofs.Text.Units.{length-name}
 use Rattle.lookup.specs.Hash.{keyOf}
 use borrow.Author.Needs.{needs}
 use Rattle.lookup.proofs.hash.key_name.Statement.{statement}

@@ -5,8 +5,8 @@ use native.Mathlib.Omega.{arith}
 use borrow.Author.Count.{below-more}
 use borrow.Author.Needs.{needs}
 use Rattle.format.specs.Text.{units, lossy}
-use Rattle.format.proofs.Text.{length-name, plain-name-unit, name-unit-plain}
-use Rattle.format.proofs.Compared.{Alike, told-lengths, told-alike, told-differ, told-next}
+use Rattle.format.proofs.Text.Units.{length-name, plain-name-unit, name-unit-plain}
+use Rattle.format.proofs.Text.Compared.{Alike, told-lengths, told-alike, told-differ, told-next}
 use Rattle.name.proofs.ascii.compare_ascii.Statement.{statement}
 use Rattle.name.proofs.ascii.compare_ascii.Tie as tie
 

@@ -1,7 +1,7 @@
 -- `name_is` tells whether a name is the ASCII one: yes and no are those of lists that are equal or not. Assumes nothing.
 use mathlib.Core.Path.{ap, _∙_}
 use Rattle.format.specs.declared.Comparison.{Comparison}
-use Rattle.format.proofs.Compared.{comparison-same}
+use Rattle.format.proofs.Text.Compared.{comparison-same}
 use borrow.Author.Needs.{needs}
 use Rattle.name.proofs.ascii.name_is.Statement.{statement}
 use Rattle.name.proofs.ascii.name_is.Tie as tie

@@ -1,7 +1,7 @@
 -- `lossy_unit` gives the unit of the name with each lone surrogate replaced. Assumes nothing.
 use mathlib.Core.Path.{sym, _∙_}
-use Rattle.format.proofs.Text.{surrogate-in, name-outside}
-use Rattle.format.proofs.Compared.{reaches-unit}
+use Rattle.format.proofs.Text.Units.{surrogate-in, name-outside}
+use Rattle.format.proofs.Text.Compared.{reaches-unit}
 use Rattle.name.proofs.unit.lossy_unit.Statement.{statement}
 use Rattle.name.proofs.unit.lossy_unit.Tie as tie
 

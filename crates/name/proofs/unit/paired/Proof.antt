@@ -1,9 +1,9 @@
 -- `paired` looks at the one neighbour that can be the surrogate's partner. Assumes nothing.
 use mathlib.Core.Path.{sym}
 use native.Mathlib.Omega.{arith}
-use Rattle.format.proofs.Surrogates.{high-true, low-true}
-use Rattle.format.proofs.Text.{name-high, name-low}
-use Rattle.format.proofs.Compared.{reaches-unit, reaches-after}
+use Rattle.format.proofs.Text.Mended.{high-true, low-true}
+use Rattle.format.proofs.Text.Units.{name-high, name-low}
+use Rattle.format.proofs.Text.Compared.{reaches-unit, reaches-after}
 use borrow.Author.Needs.{needs}
 use Rattle.name.proofs.unit.paired.Statement.{statement}
 use Rattle.name.proofs.unit.paired.Tie as tie

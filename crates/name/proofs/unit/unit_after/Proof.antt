@@ -1,7 +1,7 @@
 -- `unit_after` reads the next unit of the list of units, 0 past its end. Assumes nothing.
 use native.Mathlib.Omega.{arith}
 use mathlib.Core.Path.{sym, _∙_}
-use Rattle.format.proofs.Text.{units-at, units-past}
+use Rattle.format.proofs.Text.Units.{units-at, units-past}
 use borrow.Author.Needs.{needs}
 use Rattle.name.proofs.unit.unit_after.Statement.{statement}
 use Rattle.name.proofs.unit.unit_after.Tie as tie

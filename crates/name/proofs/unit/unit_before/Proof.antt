@@ -1,7 +1,7 @@
 -- `unit_before` reads the unit before, and the 0 that stands before the first. Assumes nothing.
 use mathlib.Core.Path.{sym, _∙_}
 use native.Mathlib.Omega.{arith}
-use Rattle.format.proofs.Text.{units-before}
+use Rattle.format.proofs.Text.Units.{units-before}
 use borrow.Author.Needs.{needs}
 use Rattle.name.proofs.unit.unit_before.Statement.{statement}
 use Rattle.name.proofs.unit.unit_before.Tie as tie
