@@ -1,5 +1,5 @@
--- What is computed on examples: files built from their parts, a sheet byte by byte, names, doubles by their bits. No law of another folder is used but
--- by Tiny and Witness, and the folder's name is the first in order: files are checked by name, so a wrong definition is refused here first.
+-- What is computed on examples: files built from their parts, a sheet byte by byte, names, doubles by their bits. Files are checked by path, each behind those
+-- that it uses. This folder is the first by name, and its files but Tiny and Witness use no law: a wrong definition is refused here first.
 -- files whose map leads from a name astray: what each call gives
 pub mod AstrayFile
 -- files with one pixel size: what the picometres call gives, at the ends of the range and past them

@@ -10,7 +10,8 @@ use lib.ListN.{length, replicate, length-replicate}
 use lib.Seq.{take-all}
 use borrow.Author.Tests.{eqb-true, eqb-false}
 use Rattle.format.proofs.Ground.Answers.{refused≢given}
-use Rattle.format.proofs.Ground.Orders.{Decides, stops, gives, goes, decides-if, decides-less, decides-one, decides-then, decides-first, nonzero, accepted-iff}
+use Rattle.format.proofs.Ground.Orders.{Decides, stops, gives, goes, decides-if, decides-less, decides-one, decides-then, decides-first}
+use Rattle.format.proofs.Ground.Orders.{nonzero, accepted-iff}
 use Rattle.format.proofs.Ground.Stages.{decides-from}
 use Rattle.format.proofs.Map.Entries.{map-read, read-map, map-numbered}
 use Rattle.format.proofs.Files.SummaryTest.{sound-read, unsound}

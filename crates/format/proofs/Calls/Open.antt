@@ -28,7 +28,8 @@ use Rattle.format.proofs.Loops.Walks.{levels-read, walk-fault-read}
 use Rattle.format.proofs.Loops.Faults.{walk-number, judge-number, judge-read, fault-judge}
 use Rattle.format.proofs.Trees.MostEntries.{fault-low}
 use Rattle.format.proofs.Stated.Calibration.{calibration-read, calibration-stops}
-use Rattle.format.proofs.Files.FoundOnce.{chunk-in, chunk-at-unique, tree-at-unique, sizes-unique, experiment-unique, refused-walk, given-walk, stage-once}
+use Rattle.format.proofs.Files.FoundOnce.{chunk-in, chunk-at-unique, tree-at-unique, sizes-unique, experiment-unique, refused-walk, given-walk}
+use Rattle.format.proofs.Files.FoundOnce.{stage-once}
 use Rattle.format.specs.Answer.{refused, given}
 use Rattle.format.specs.Bytes.{leAt, part, same, ascii, most64}
 use Rattle.format.specs.Refusals as why

@@ -18,7 +18,8 @@ use Rattle.format.specs.Answer.{Answer}
 use Rattle.format.specs.Bytes.{ascii}
 use Rattle.format.specs.Values.{fieldIn, bind}
 use Rattle.format.specs.Numbers.{signed}
-use Rattle.format.specs.Loops.{Said, nothing, wrong, loop, said, saidBy, typed, counted, supported, mostCount, pointCount, spectralCount, countField, Built, append, walkAll, walkOne, walk, loopParams}
+use Rattle.format.specs.Loops.{Said, nothing, wrong, loop, said, saidBy, typed, counted, supported, mostCount, pointCount, spectralCount}
+use Rattle.format.specs.Loops.{countField, Built, append, walkAll, walkOne, walk, loopParams}
 use Rattle.format.specs.Calls.Open.{opened}
 use Rattle.format.specs.Refused.Open.{Stage, needed, OpenRefusal, no-mark, old-mark, other-mark, no-tail, wrong-tail, no-map-chunk, no-map}
 use Rattle.format.specs.Refused.Open.{no-entry, no-chunk, table-short, tree-fault, no-sizes, compressed, wrong-bits, wrong-shape, no-level}
@@ -59,12 +60,14 @@ said-fine s es i = go (loopParams s es (fieldIn s es i (ascii "uLoopPars"))) (bi
     go (some p) none = no-loop
     go (some p) (some t) = typed-fine s es i p t
 
-all-some : (go : ℕ → List Built → Answer (List Built)) → ((i : ℕ) (bs : List Built) → Some (go i bs)) → (is : List ℕ) (bs : List Built) → Some (walkAll go is bs)
+all-some : (go : ℕ → List Built → Answer (List Built)) → ((i : ℕ) (bs : List Built) → Some (go i bs)) → (is : List ℕ) (bs : List Built)
+    → Some (walkAll go is bs)
 unfolding walkAll
 all-some go f [] bs = answer
 all-some go f (i ∷ is) bs = andThen-numbered (go i bs) (walkAll go is) (f i bs) λ cs. all-some go f is cs
 
-one-some : (go : ℕ → ℕ → List Built → Answer (List Built)) → ((i n : ℕ) (bs : List Built) → Some (go i n bs)) → (kids : List ℕ) (n : ℕ) (bs : List Built) (x : Said)
+one-some : (go : ℕ → ℕ → List Built → Answer (List Built)) → ((i n : ℕ) (bs : List Built) → Some (go i n bs))
+    → (kids : List ℕ) (n : ℕ) (bs : List Built) (x : Said)
     → Fine x → Some (walkOne go kids n bs x)
 unfolding walkOne
 one-some go f kids n bs x no-loop = answer

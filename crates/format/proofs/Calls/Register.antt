@@ -120,12 +120,14 @@ module _ (m : List ℕ) (es : List MapEntry) (ls : List Loop) where
   register-last zero n = rw (append-nil, add-zero) refl
   register-last (suc k) n =
       let e : suc n + k ≡ n + suc k = omega arith in
-      ap (λ (l : List ℕ). frameRecord m es ls n ++ l) (register-last k (suc n) ∙ rw e refl) ∙ sym (append-assoc (frameRecord m es ls n) (registerFrom k m es ls (suc n)) _)
+      ap (λ (l : List ℕ). frameRecord m es ls n ++ l) (register-last k (suc n) ∙ rw e refl)
+      ∙ sym (append-assoc (frameRecord m es ls n) (registerFrom k m es ls (suc n)) _)
 
   -- record i of k, whatever stands behind them
   register-part : (k n i : ℕ) (t : List ℕ) → i < k → part (registerFrom k m es ls n ++ t) (24 * i) 24 ≡ frameRecord m es ls (n + i)
   register-part zero n i t h = absurd (omega arith)
-  register-part (suc k) n zero t h = rw (register-step k n t, add-zero) (part-first (frameRecord m es ls n) (registerFrom k m es ls (suc n) ++ t) 24 (record-length n))
+  register-part (suc k) n zero t h =
+      rw (register-step k n t, add-zero) (part-first (frameRecord m es ls n) (registerFrom k m es ls (suc n) ++ t) 24 (record-length n))
   register-part (suc k) n (suc i) t h =
       let x = frameRecord m es ls n in
       let e₁ : 24 * suc i ≡ length x + 24 * i = rw (record-length n) (omega arith) in

@@ -145,7 +145,8 @@ module _ (s : List ℕ) (room : ℕ) (u : Summary) where
         enough,
       )
     where
-      experiment-at : (ts : List Entry) (i : ℕ) → Means s ts → asLevel (field s ts 0 (ascii "SLxExperiment")) ≡ some i → Field s ts 0 (ascii "SLxExperiment") (level i)
+      experiment-at : (ts : List Entry) (i : ℕ) → Means s ts → asLevel (field s ts 0 (ascii "SLxExperiment")) ≡ some i
+          → Field s ts 0 (ascii "SLxExperiment") (level i)
       experiment-at ts i M e = unfold ascii in level-at s ts M 0 .holds i e
 
       fits : (name : List ℕ) (q : Range) → TreeRead name → Named s (dataIn s r) es name q → length (treeIn s q .entries) ≤ room
@@ -189,16 +190,20 @@ module _ (s : List ℕ) (room : ℕ) (u : Summary) where
       (go-on (namedTree s m es room (ascii "ImageAttributesLV!")) _ (x .attributes-tree)
       (given-tree s m es (ascii "ImageAttributesLV!") room (x .attributes-tree) (x .attributes-place) (x .attributes-named) (x .attributes-formed)
       (length-fits fit r es (ascii "ImageAttributesLV!") (x .attributes-place) (x .mapped) attributesTree (x .attributes-named)))
-      (go-on (attributes s (x .attributes-tree)) _ a (read-attributes s (x .attributes-tree) (tree-means s (x .attributes-place) (x .attributes-tree) (x .attributes-formed)) a (x .attributes-of))
+      (go-on (attributes s (x .attributes-tree)) _ a
+      (read-attributes s (x .attributes-tree) (tree-means s (x .attributes-place) (x .attributes-tree) (x .attributes-formed)) a
+      (x .attributes-of))
       (go-on (namedTree s m es room (ascii "ImageMetadataLV!")) _ ts
       (given-tree s m es (ascii "ImageMetadataLV!") room ts (x .experiment-place) (x .experiment-named) (x .experiment-formed)
       (length-fits fit r es (ascii "ImageMetadataLV!") (x .experiment-place) (x .mapped) experimentTree (x .experiment-named)))
-      (go-on (orRefuse (asLevel (field s ts 0 (ascii "SLxExperiment"))) why.missing) _ i (found _ why.missing i (level-at s ts M 0 .only i (x .experiment-there)))
+      (go-on (orRefuse (asLevel (field s ts 0 (ascii "SLxExperiment"))) why.missing) _ i
+      (found _ why.missing i (level-at s ts M 0 .only i (x .experiment-there)))
       (go-on (experiment s ts i) _ (x .loops) (read-loops s ts D R M i (x .experiment-there) (x .loops) (x .loops-of))
       (not-refused (ltb most64 (planeBytes a)) why.frameShape _ _ (le-ltb _ _ (x .plane-most))
       (go-on (calibration s m es room (zFloat (zStep mostDepth s ts i))) _ (x .size)
       (ap (λ (z : Option Float). calibration s m es room (zFloat z)) (read-step s ts D R M i (x .experiment-there) (x .step) (x .step-found))
-      ∙ read-calibration s m es room (x .step) (x .size) (x .calibrated) (λ q y. length-fits fit r es (ascii "ImageCalibrationLV|0!") q (x .mapped) calibrationTree y))
+      ∙ read-calibration s m es room (x .step) (x .size) (x .calibrated)
+      (λ q y. length-fits fit r es (ascii "ImageCalibrationLV|0!") q (x .mapped) calibrationTree y))
       (ap given (sym (read-summary r a (x .loops) (x .size) u (x .summary))))))))))))
 
   -- (b) what is opened is what the grammar joins to the bytes, where the table has entries enough

@@ -26,7 +26,8 @@ InRange t c = (0 < c) × (c ≤ mostCount)
 
 in-range : (s : List ℕ) (es : List Entry) (is : List ℕ) (n : ℕ) (bs : List Built) → Walks s es is n [] bs → Each InRange (reverse bs)
 in-range s es is n bs w =
-    each-reverse InRange bs [] (walks-each s es InRange (λ i t c x _. (x .count-some, x .count-most)) (λ t c d h k. (omega arith, omega arith)) is n [] bs w no-more) no-more
+    each-reverse InRange bs []
+    (walks-each s es InRange (λ i t c x _. (x .count-some, x .count-most)) (λ t c d h k. (omega arith, omega arith)) is n [] bs w no-more) no-more
 
 range-counted : (bs : List Built) (ls : List Loop) → OnAxes bs ls → Each InRange bs → Counted ls
 range-counted [] ls nil r = nil
@@ -45,8 +46,10 @@ distinct-three (a ∷ []) d = omega arith
 distinct-three (a ∷ b ∷ []) d = omega arith
 distinct-three (a ∷ b ∷ c ∷ []) d = omega arith
 distinct-three (a ∷ b ∷ c ∷ e ∷ ls) (cons (cons ab (cons ac (cons ae f₁))) (cons (cons bc (cons be f₂)) (cons (cons ce f₃) d))) =
-    absurd (four (axisNumber (a .axis)) (axisNumber (b .axis)) (axisNumber (c .axis)) (axisNumber (e .axis)) (axis-below (a .axis)) (axis-below (b .axis)) (axis-below (c .axis))
-    (axis-below (e .axis)) (λ z. ab (axis-number _ _ z)) (λ z. ac (axis-number _ _ z)) (λ z. ae (axis-number _ _ z)) (λ z. bc (axis-number _ _ z)) (λ z. be (axis-number _ _ z))
+    absurd (four (axisNumber (a .axis)) (axisNumber (b .axis)) (axisNumber (c .axis)) (axisNumber (e .axis)) (axis-below (a .axis))
+    (axis-below (b .axis)) (axis-below (c .axis))
+    (axis-below (e .axis)) (λ z. ab (axis-number _ _ z)) (λ z. ac (axis-number _ _ z)) (λ z. ae (axis-number _ _ z)) (λ z. bc (axis-number _ _ z))
+    (λ z. be (axis-number _ _ z))
     (λ z. ce (axis-number _ _ z)))
   where
     four : (a b c e : ℕ) → a < 3 → b < 3 → c < 3 → e < 3 → (b ≡ a → ⊥) → (c ≡ a → ⊥) → (e ≡ a → ⊥) → (c ≡ b → ⊥) → (e ≡ b → ⊥) → (e ≡ c → ⊥) → ⊥

@@ -52,7 +52,8 @@ digit-range (digits {n} {d} {ds} h r small) i l =
     let n : i ≤ length ds = omega arith in
     by (eq-or-lt-of-le n) (λ m. digit-range r i m)
   where
-    by : (i ≡ length ds) ⊎ (i < length ds) → (i < length ds → (48 ≤ getD ds i 0) × (getD ds i 0 ≤ 57)) → (48 ≤ getD (ds ++ (48 + d) ∷ []) i 0) × (getD (ds ++ (48 + d) ∷ []) i 0 ≤ 57)
+    by : (i ≡ length ds) ⊎ (i < length ds) → (i < length ds → (48 ≤ getD ds i 0) × (getD ds i 0 ≤ 57))
+        → (48 ≤ getD (ds ++ (48 + d) ∷ []) i 0) × (getD (ds ++ (48 + d) ∷ []) i 0 ≤ 57)
     by (inl e) f =
         let k : i ≡ length ds + 0 = omega arith in
         rw (k, getD-append-add ds ((48 + d) ∷ []) 0 0) (omega arith, omega (arith, small))

@@ -96,7 +96,8 @@ free-has a (l ∷ ls) (cons n f) = or-none _ _ (ne-eqb _ _ (λ q. n (axis-number
 below-from : (i : Axis → ℕ) (ls : List Loop) → Distinct ls → ((a : Axis) → hasAxis a ls ≡ true → i a < countOf a ls) → Below i ls
 unfolding countOf hasAxis
 below-from i [] d h = none
-below-from i (l ∷ ls) (cons f d) h = one (rw same at (h (l .axis) (rw same refl))) (below-from i ls d (λ a q. rest a q (eqb (axisNumber (l .axis)) (axisNumber a)) refl))
+below-from i (l ∷ ls) (cons f d) h =
+    one (rw same at (h (l .axis) (rw same refl))) (below-from i ls d (λ a q. rest a q (eqb (axisNumber (l .axis)) (axisNumber a)) refl))
   where
     same : eqb (axisNumber (l .axis)) (axisNumber (l .axis)) ≡ true
     same = eq-eqb (axisNumber (l .axis)) (axisNumber (l .axis)) refl
@@ -162,7 +163,8 @@ digits-before zero n r t = refl
 digits-before (suc f) n r t = by (ltb n 10) (digits-before f (n / 10) ((48 + n % 10) ∷ r) t)
   where
     by : (b : Bool) → digitsFrom f (n / 10) ((48 + n % 10) ∷ r) ++ t ≡ digitsFrom f (n / 10) ((48 + n % 10) ∷ (r ++ t))
-        → cond b ((48 + n) ∷ r) (digitsFrom f (n / 10) ((48 + n % 10) ∷ r)) ++ t ≡ cond b ((48 + n) ∷ (r ++ t)) (digitsFrom f (n / 10) ((48 + n % 10) ∷ (r ++ t)))
+        → cond b ((48 + n) ∷ r) (digitsFrom f (n / 10) ((48 + n % 10) ∷ r)) ++ t
+        ≡ cond b ((48 + n) ∷ (r ++ t)) (digitsFrom f (n / 10) ((48 + n % 10) ∷ (r ++ t)))
     by true e = refl
     by false e = e
 

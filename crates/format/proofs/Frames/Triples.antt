@@ -69,7 +69,8 @@ data Digits (i : Axis → ℕ) (n : ℕ) : List Loop → Type 0 where
 digits-from : (i : Axis → ℕ) (n : ℕ) (ls : List Loop) → Distinct ls → ((a : Axis) → hasAxis a ls ≡ true → i a ≡ indexAt a n ls) → Digits i n ls
 unfolding indexAt hasAxis
 digits-from i n [] d h = no-more
-digits-from i n (l ∷ ls) (cons f d) h = digit {l = l} {ls = ls} (h (l .axis) (rw same refl) ∙ rw same refl) (digits-from i n ls d λ a q. rest a q (sameAxis (l .axis) a) refl)
+digits-from i n (l ∷ ls) (cons f d) h =
+    digit {l = l} {ls = ls} (h (l .axis) (rw same refl) ∙ rw same refl) (digits-from i n ls d λ a q. rest a q (sameAxis (l .axis) a) refl)
   where
     same : sameAxis (l .axis) (l .axis) ≡ true
     same = eq-eqb (axisNumber (l .axis)) (axisNumber (l .axis)) refl
@@ -97,7 +98,8 @@ pub number-triple : (ls : List Loop) (n : ℕ) → Counted ls → Distinct ls �
 unfolding seqIndex
 number-triple ls n c d h =
     let e : n % frames ls ≡ n = mod-eq-of-lt h in
-    let r = digits-seq ls 0 n (indexAt P n ls) (indexAt T n ls) (indexAt Z n ls) c (digits-from (index (indexAt P n ls) (indexAt T n ls) (indexAt Z n ls)) n ls d λ a _. each a) in
+    let r = digits-seq ls 0 n (indexAt P n ls) (indexAt T n ls) (indexAt Z n ls) c
+    (digits-from (index (indexAt P n ls) (indexAt T n ls) (indexAt Z n ls)) n ls d λ a _. each a) in
     (record { scene-below = index-below P n ls c; t-below = index-below T n ls c; z-below = index-below Z n ls c }, omega arith)
   where
     each : (a : Axis) → index (indexAt P n ls) (indexAt T n ls) (indexAt Z n ls) a ≡ indexAt a n ls

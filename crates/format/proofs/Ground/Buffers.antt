@@ -67,7 +67,8 @@ pub over-stored : (xs ys buf : List ℕ) (n : ℕ) → length xs ≡ n → n + l
 over-stored xs ys buf n e h =
     let k : n + length ys ≤ length (over xs buf) = rw (over-length xs buf (omega arith)) h in
     sets-eq ys (over xs buf) n k
-    ∙ (append-assoc (take n (over xs buf)) ys (drop (n + length ys) (over xs buf)) ∙ (rw (← drop-drop (length ys) n (over xs buf)) (over-more xs ys buf n (length ys) e refl)))
+    ∙ (append-assoc (take n (over xs buf)) ys (drop (n + length ys) (over xs buf))
+    ∙ (rw (← drop-drop (length ys) n (over xs buf)) (over-more xs ys buf n (length ys) e refl)))
 
 -- bytes stored in the second of two lists
 set-behind : (xs ys : List ℕ) (i v : ℕ) → set (xs ++ ys) (length xs + i) v ≡ xs ++ set ys i v

@@ -56,7 +56,8 @@ pub leBytes-low : (n v : ℕ) → leBytes n (v % 256 ^ n) ≡ leBytes n v
 unfolding leBytes
 leBytes-low zero v = refl
 leBytes-low (suc n) v =
-    let e : v % 256 ^ suc n ≡ (v / 256 % 256 ^ n) * 256 + v % 256 = rw pow-suc (mod-mul v (pow-le-pow-right {n = 256} (lit< tt) {i = 0} {j = n} (omega arith)) (lit< tt)) in
+    let e : v % 256 ^ suc n ≡ (v / 256 % 256 ^ n) * 256 + v % 256 =
+    rw pow-suc (mod-mul v (pow-le-pow-right {n = 256} (lit< tt) {i = 0} {j = n} (omega arith)) (lit< tt)) in
     let a : v % 256 ^ suc n % 256 ≡ v % 256 = omega arith in
     let b : v % 256 ^ suc n / 256 ≡ v / 256 % 256 ^ n = omega arith in
     rw (a, b, leBytes-low n (v / 256))
@@ -88,7 +89,10 @@ le-stored n l i v h f =
     let k = leBytes-length n v in
     let b : length (take i l) ≡ i = simp length-take (omega arith) in
     let e : leAt n (take i l ++ leBytes n v) (length (take i l) + 0) ≡ v = le-after n (take i l) (leBytes n v) 0 ∙ le-leBytes n v f in
-    rw (sets-eq (leBytes n v) l i (rw k h), le-before n (take i l ++ leBytes n v) (drop (i + length (leBytes n v)) l) i (rw (length-append, b, k) (omega arith)))
+    rw (
+      sets-eq (leBytes n v) l i (rw k h),
+      le-before n (take i l ++ leBytes n v) (drop (i + length (leBytes n v)) l) i (rw (length-append, b, k) (omega arith)),
+    )
     (rw (b, add-zero) at e)
 
 -- and elsewhere nothing changed

@@ -12,7 +12,8 @@ use Rattle.format.specs.Trees.{mostDepth}
 use Rattle.format.specs.Values.{Value, level, list, field, fieldIn}
 use Rattle.format.specs.Loops.{childLevels}
 use Rattle.format.specs.Grammar.Lists.{All, over, more, In, here, behind}
-use Rattle.format.specs.Grammar.Values.{Levels, none as no-levels, one, other, ValueOf, is-leaf, is-level, is-list, Field, PlaceValue, of-name, of-one, LevelsIn, of-level, of-list, of-other}
+use Rattle.format.specs.Grammar.Values.{Levels, none as no-levels, one, other, ValueOf, is-leaf, is-level, is-list, Field, PlaceValue, of-name}
+use Rattle.format.specs.Grammar.Values.{of-one, LevelsIn, of-level, of-list, of-other}
 use Rattle.format.specs.declared.Entry.{Entry}
 
 levels-all : {Has : ℕ → Value → Type 0} {P : ℕ → Type 0} {js is : List ℕ} → ((j i : ℕ) → In j js → Has j (level i) → P i) → Levels Has js is → All P is

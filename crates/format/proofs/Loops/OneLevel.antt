@@ -21,11 +21,15 @@ use Rattle.format.proofs.Ground.Lists.{all-take}
 use Rattle.format.specs.Bytes.{ascii}
 use Rattle.format.specs.Values.{Value, flag, whole, double, text, bytes, level, list, valueAt, fieldIn, asLevel, bind}
 use Rattle.format.specs.Numbers.{unsigned, signed}
-use Rattle.format.specs.Loops.{mostCount, orZero, loopParams, childLevels, sizeOf, countSet, validOf, countField, pointCount, planesCount, spectralCount, Said, nothing, wrong, loop, supported, counted, typed, saidBy, said}
+use Rattle.format.specs.Loops.{mostCount, orZero, loopParams, childLevels, sizeOf, countSet, validOf, countField, pointCount, planesCount}
+use Rattle.format.specs.Loops.{spectralCount, Said, nothing, wrong, loop, supported, counted, typed, saidBy, said}
 use Rattle.format.specs.Grammar.Lists.{All, over, more}
 use Rattle.format.specs.Grammar.Values.{ValueOf, Field}
 use Rattle.format.specs.Grammar.Numbers.{ReadsUnsigned, Signed}
-use Rattle.format.specs.Grammar.Loops.{Parameters, in-level, in-list, UiCount, stated as count-stated, unstated as count-unstated, PlanesCount, SpectralCount, preferred, plain, Points, Valid, no-more, set, unset, PointCount, no-points, all-points, valid-points, Count, of-time, of-points, of-focus, of-spectral, of-custom, of-time-uneven, Stops, no-parameters, no-type, type-0, type-over, count-0, LoopAt, Below, levels, no-levels}
+use Rattle.format.specs.Grammar.Loops.{Parameters, in-level, in-list, UiCount, stated as count-stated, unstated as count-unstated, PlanesCount}
+use Rattle.format.specs.Grammar.Loops.{SpectralCount, preferred, plain, Points, Valid, no-more, set, unset, PointCount, no-points, all-points}
+use Rattle.format.specs.Grammar.Loops.{valid-points, Count, of-time, of-points, of-focus, of-spectral, of-custom, of-time-uneven, Stops}
+use Rattle.format.specs.Grammar.Loops.{no-parameters, no-type, type-0, type-over, count-0, LoopAt, Below, levels, no-levels}
 use Rattle.format.specs.Refused.Loops.{LoopType, time, points, focus, spectral, custom, time-uneven, Unfit, type-negative, type-other, count-over}
 use Rattle.format.specs.Refusals as why
 use Rattle.format.specs.declared.Entry.{Entry}

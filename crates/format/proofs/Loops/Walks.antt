@@ -52,7 +52,9 @@ is-append t c n [] = first
 is-append t c n (b ∷ bs) = go (ltb (b .nesting) n) refl (eqb (b .nesting) n) refl (eqb (b .kind) t) refl
   where
     go : (x : Bool) → ltb (b .nesting) n ≡ x → (y : Bool) → eqb (b .nesting) n ≡ y → (z : Bool) → eqb (b .kind) t ≡ z
-        → Appended t c n (b ∷ bs) (cond x (record { kind = t; count = c; nesting = n } ∷ b ∷ bs) (cond (y && z) (record { kind = t; count = max (b .count) c; nesting = n } ∷ bs) (b ∷ bs)))
+        → Appended t c n (b ∷ bs)
+        (cond x (record { kind = t; count = c; nesting = n } ∷ b ∷ bs)
+        (cond (y && z) (record { kind = t; count = max (b .count) c; nesting = n } ∷ bs) (b ∷ bs)))
     go true p y q z r = deeper (ltb-true _ _ p)
     go false p true q true r = larger (eqb-true _ _ q) (eqb-true _ _ r)
     go false p true q false r = dropped (ltb-false _ _ p) (λ _. eqb-false _ _ r)

@@ -171,9 +171,25 @@ module _ (w : ℕ) (p s : List ℕ) (at : ℕ) where
           pub cut-data : length s < at + 16 + n + d → refused 4 ≡ chunkData w p s at
           unfolding inHand refuseIf
           cut-data k =
-              rw (le-ltb (length s) (at + 16) h, eq-eqb (leAt 4 s at) chunkMark m, ← en, le-ltb (length s) (at + 16 + n) l, b, ← ed, lt-ltb (length s) (at + 16 + n + d) k) at tested
+              rw (
+                le-ltb (length s) (at + 16) h,
+                eq-eqb (leAt 4 s at) chunkMark m,
+                ← en,
+                le-ltb (length s) (at + 16 + n) l,
+                b,
+                ← ed,
+                lt-ltb (length s) (at + 16 + n + d) k,
+              ) at tested
 
           pub whole-chunk : at + 16 + n + d ≤ length s → given (record { start = at + 16 + n; len = d }) ≡ chunkData w p s at
           unfolding inHand refuseIf
           whole-chunk k =
-              rw (le-ltb (length s) (at + 16) h, eq-eqb (leAt 4 s at) chunkMark m, ← en, le-ltb (length s) (at + 16 + n) l, b, ← ed, le-ltb (length s) (at + 16 + n + d) k) at tested
+              rw (
+                le-ltb (length s) (at + 16) h,
+                eq-eqb (leAt 4 s at) chunkMark m,
+                ← en,
+                le-ltb (length s) (at + 16 + n) l,
+                b,
+                ← ed,
+                le-ltb (length s) (at + 16 + n + d) k,
+              ) at tested

@@ -10,11 +10,13 @@ use lib.ListN.{length, getD, drop, length-drop}
 use lib.Seq.{getD-drop}
 use borrow.Author.Tests.{ltb-false, lt-ltb, le-ltb, eqb-true, eqb-false, eq-eqb, ne-eqb}
 use Rattle.format.proofs.Ground.Tests.{same-true, true-same, false-same}
-use Rattle.format.proofs.Ground.Answers.{refused≢given, refuseIf-given, andThen-given, given-inj, not-refused, go-on, none≢some, Numbered, answer, refusal, refuseIf-numbered, andThen-numbered}
+use Rattle.format.proofs.Ground.Answers.{refused≢given, refuseIf-given, andThen-given, given-inj, not-refused, go-on, none≢some, Numbered}
+use Rattle.format.proofs.Ground.Answers.{answer, refusal, refuseIf-numbered, andThen-numbered}
 use Rattle.format.specs.Answer.{Answer, refused, given, refuseIf, andThen}
 use Rattle.format.specs.Refusals as why
 use Rattle.format.specs.Bytes.{leAt, part, same}
-use Rattle.format.specs.Map.{MapEntry, offsetOf, through, prepend, endMark, mostEntries, throughMark, entryThen, mapStep, mapFrom, mapEntries, mapRange, mapName}
+use Rattle.format.specs.Map.{MapEntry, offsetOf, through, prepend, endMark, mostEntries, throughMark, entryThen, mapStep, mapFrom, mapEntries}
+use Rattle.format.specs.Map.{mapRange, mapName}
 use Rattle.format.specs.Chunks.{chunkMark, chunkData}
 use Rattle.format.specs.declared.Range.{Range}
 use Rattle.format.specs.Grammar.Map.{Name, Entries, ended, entry, MapOf, Unlisted, Listed, last, later}
@@ -52,7 +54,14 @@ unfolding throughMark
 first-through [] k f = absurd (omega (arith, f .name-within))
 first-through (b ∷ s) zero f = rw (eq-eqb b 33 (f .mark)) refl
 first-through (b ∷ s) (suc k) f =
-    rw (ne-eqb b 33 (f .none-before 0 (omega arith)), first-through s k (record { name-within = omega (arith, f .name-within); mark = f .mark; none-before = λ j h. f .none-before (suc j) (omega arith) })) refl
+    rw (
+      ne-eqb b 33 (f .none-before 0 (omega arith)),
+      first-through s k (record {
+        name-within = omega (arith, f .name-within);
+        mark = f .mark;
+        none-before = λ j h. f .none-before (suc j) (omega arith);
+      }),
+    ) refl
 
 module _ (m : List ℕ) (at k : ℕ) where
   first-name : First (drop at m) k → Name m at k
@@ -182,7 +191,8 @@ listed-read m name [] o e = absurd (none≢some e)
 listed-read m name (x ∷ es) o e =
     go (offsetOf m name es) refl (same (part m (x .nameAt) (x .nameLen)) name) refl (listed-read m name es) e
   where
-    go : (r : Option ℕ) → offsetOf m name es ≡ r → (b : Bool) → same (part m (x .nameAt) (x .nameLen)) name ≡ b → ((o : ℕ) → offsetOf m name es ≡ some o → Listed m name es o)
+    go : (r : Option ℕ) → offsetOf m name es ≡ r → (b : Bool) → same (part m (x .nameAt) (x .nameLen)) name ≡ b
+        → ((o : ℕ) → offsetOf m name es ≡ some o → Listed m name es o)
         → orElse r (cond b (some (x .offset)) none) ≡ some o → Listed m name (x ∷ es) o
     go (some p) z b q f e = later (f o (z ∙ e))
     go none z true q f e = let k : x .offset ≡ o = cc in rw (← k) (last (same-true _ _ q) (unlisted-read m name es z))

@@ -8,7 +8,8 @@ use lib.Dec.{eqb, ltb}
 use lib.ListN.{length}
 use borrow.Author.Tests.{ltb-false, le-ltb, le-leb, eqb-true, eq-eqb, not-false}
 use Rattle.format.proofs.Ground.Tests.{same-true, true-same}
-use Rattle.format.proofs.Ground.Answers.{refuseIf-given, andThen-given, orRefuse-given, given-inj, not-refused, go-on, found, Numbered, andThen-numbered, orRefuse-numbered}
+use Rattle.format.proofs.Ground.Answers.{refuseIf-given, andThen-given, orRefuse-given, given-inj, not-refused, go-on, found, Numbered}
+use Rattle.format.proofs.Ground.Answers.{andThen-numbered, orRefuse-numbered}
 use Rattle.format.proofs.Trees.PickedReading.{whole-read}
 use Rattle.format.proofs.Map.Chunks.{chunk-read, read-chunk, chunk-numbered}
 use Rattle.format.proofs.Map.Entries.{map-read, read-map, listed-read, read-listed}
@@ -125,12 +126,14 @@ module _ (s m : List ℕ) (es : List MapEntry) (name : List ℕ) where
       let x : Tree s r (treeIn s r .entries) = tree-read s r p (ap (λ (z : Read). z .stop) q) in
       (r, named-read r f₁, subst (Tree s r) (ap (λ (z : Read). z .entries) q) x, h)
 
-  pub given-tree : (room : ℕ) (ts : List Entry) (r : Range) → Named s m es name r → Tree s r ts → length (treeIn s r .entries) ≤ room → namedTree s m es room name ≡ given ts
+  pub given-tree : (room : ℕ) (ts : List Entry) (r : Range) → Named s m es name r → Tree s r ts → length (treeIn s r .entries) ≤ room
+      → namedTree s m es room name ≡ given ts
   unfolding namedTree within wholeTree
   given-tree room ts r x y h =
       go-on (namedChunk s m es name) _ r (read-named r x) (rw (le-leb (length (treeIn s r .entries)) room h, read-tree s r ts y) refl)
 
-  pub refused-tree : (room n : ℕ) (r : Range) → Named s m es name r → treeIn s r .stop ≡ fault n → length (treeIn s r .entries) ≤ room → namedTree s m es room name ≡ refused n
+  pub refused-tree : (room n : ℕ) (r : Range) → Named s m es name r → treeIn s r .stop ≡ fault n → length (treeIn s r .entries) ≤ room
+      → namedTree s m es room name ≡ refused n
   unfolding namedTree within wholeTree
   refused-tree room n r x q h = go-on (namedChunk s m es name) _ r (read-named r x) (rw (le-leb (length (treeIn s r .entries)) room h, q) refl)
 

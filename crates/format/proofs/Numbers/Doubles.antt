@@ -13,7 +13,8 @@ pub narrow-is : (v : Float) (s : Bool) (a c : ℕ) → 0 < c → HasValue v s a 
 unfolding narrow
 narrow-is nan s a c C h = absurd h
 narrow-is (inf t) s a c C h = absurd h
-narrow-is (fin t m e) s a c C h = ap (λ (b : Bool). round binary32 b (m * up e) (down e)) (h .0) ∙ round-same binary32 s (m * up e) (down e) a c (down-pos e) C (h .1)
+narrow-is (fin t m e) s a c C h =
+    ap (λ (b : Bool). round binary32 b (m * up e) (down e)) (h .0) ∙ round-same binary32 s (m * up e) (down e) a c (down-pos e) C (h .1)
 
 -- ---- "a positive finite number"
 

@@ -30,7 +30,8 @@ use Rattle.format.specs.Calibration.{leastStep, mostStep, zClass, zFloat
 use Rattle.format.specs.declared.Calibration.{Calibration}
 use Rattle.format.specs.Grammar.Map.{Named}
 use Rattle.format.specs.Grammar.Trees.{Tree}
-use Rattle.format.specs.Grammar.Calibration.{Finite, number, Distance, Classed, no-step, no-distance, smaller, larger, used, PixelSize, Calibrated, sized, unsized, ends-packed, faulty, missing}
+use Rattle.format.specs.Grammar.Calibration.{Finite, number, Distance, Classed, no-step, no-distance, smaller, larger, used, PixelSize}
+use Rattle.format.specs.Grammar.Calibration.{Calibrated, sized, unsized, ends-packed, faulty, missing}
 use Rattle.format.specs.declared.Entry.{Entry}
 
 -- ---- the pixel size
@@ -44,7 +45,10 @@ module _ (s : List ℕ) (es : List Entry) (M : Means s es) where
             let (q, h) = above _ x e in
             let (i, e₁, e₂) = bind-some (asLevel (field s es 0 (ascii "SLxCalibration"))) (λ i. bind (fieldIn s es i (ascii "dCalibration")) float) x q in
             record { at-level = i; level-there = level-at s es M 0 .holds i e₁; stated = double-in s es M i .holds x e₂; above-0 = h };
-        only = λ x z. some-above _ x (some-bind _ _ (z .at-level) x (level-at s es M 0 .only (z .at-level) (z .level-there)) (double-in s es M (z .at-level) .only x (z .stated))) (z .above-0);
+        only =
+            λ x z. some-above _ x
+            (some-bind _ _ (z .at-level) x (level-at s es M 0 .only (z .at-level) (z .level-there))
+            (double-in s es M (z .at-level) .only x (z .stated))) (z .above-0);
       }
     where
       above : (o : Option Float) (x : Float) → aboveZero o ≡ some x → (o ≡ some x) × (lt zeroFloat x ≡ true)
@@ -145,7 +149,8 @@ module _ (s m : List ℕ) (es : List MapEntry) (room : ℕ) (z : Option Float) w
           subst (Calibrated s m es z) (given-inj (rw (ne-eqb n why.table (λ z. omega arith)) at e₂)) (number n q (eqb n why.packed) refl)
 
       go : (b : Bool) → leb (length (treeIn s r .entries)) room ≡ b
-          → calibrationBy s (zFloat z) (treeEntries (cond b (treeIn s r) (record { entries = take room (treeIn s r .entries); stop = fault why.table }))) ≡ given size
+          → calibrationBy s (zFloat z)
+          (treeEntries (cond b (treeIn s r) (record { entries = take room (treeIn s r .entries); stop = fault why.table }))) ≡ given size
           → Calibrated s m es z size × (length (treeIn s r .entries) ≤ room)
       go true q e = (end (treeIn s r .stop) refl e, leb-true _ _ q)
       go false q e = absurd (refused≢given e)

@@ -63,7 +63,8 @@ module _ (s : List ℕ) (es : List Entry) (M : Means s es) where
       go (some x) q = cases x (ne x zeroFloat) refl q
 
   -- a Z loop's level
-  focus-in : (i p : ℕ) → isFour (bind (fieldIn s es i (ascii "eType")) signed) ≡ true → loopParams s es (fieldIn s es i (ascii "uLoopPars")) ≡ some p → Focus s es i p
+  focus-in : (i p : ℕ) → isFour (bind (fieldIn s es i (ascii "eType")) signed) ≡ true → loopParams s es (fieldIn s es i (ascii "uLoopPars")) ≡ some p
+      → Focus s es i p
   focus-in i p q r = record { parameters = parameters-in s es M i .holds p r; kind = kind-in s es M i .holds (pos 4) (four-is _ q) }
 
   in-focus : (i p : ℕ) → Focus s es i p → stepAt s es i ≡ ownStep s es true (some p)
@@ -86,14 +87,20 @@ module _ (s : List ℕ) (es : List Entry) (M : Means s es) where
 
   pub step-in : (i : ℕ) → States (stepAt s es i) (StepOf s es i)
   unfolding stepAt ownStep
-  step-in i = record { holds = λ x e. go x (isFour (bind (fieldIn s es i (ascii "eType")) signed)) refl (loopParams s es (fieldIn s es i (ascii "uLoopPars"))) refl e; only = back }
+  step-in i =
+      record {
+        holds = λ x e. go x (isFour (bind (fieldIn s es i (ascii "eType")) signed)) refl (loopParams s es (fieldIn s es i (ascii "uLoopPars")))
+            refl e;
+        only = back;
+      }
     where
       by : (p : ℕ) (x : Float) → Focus s es i p → (o : Option Float) → StatedBy s es p o
           → orElse o (spanStep (countField s es p) (number s es p (ascii "dZHigh")) (number s es p (ascii "dZLow"))) ≡ some x → StepOf s es i x
       by p x f o (by-step {x = y} z) e = let k : magnitude y ≡ x = cc in rw k at (stated f z)
       by p x f o (by-none n) e = span-in i p f n x e
 
-      go : (x : Float) (b : Bool) → isFour (bind (fieldIn s es i (ascii "eType")) signed) ≡ b → (o : Option ℕ) → loopParams s es (fieldIn s es i (ascii "uLoopPars")) ≡ o
+      go : (x : Float) (b : Bool) → isFour (bind (fieldIn s es i (ascii "eType")) signed) ≡ b → (o : Option ℕ)
+          → loopParams s es (fieldIn s es i (ascii "uLoopPars")) ≡ o
           → ownStep s es b o ≡ some x → StepOf s es i x
       go x false q o r e = absurd (none≢some e)
       go x true q none r e = absurd (none≢some e)
@@ -107,7 +114,13 @@ module _ (s : List ℕ) (es : List Entry) (M : Means s es) where
       back x (stated {p = p} {x = y} f z) = unfold ascii statedStep in
           in-focus i p f ∙ rw (double-in s es M p .only y (z .stated), z .not-zero) refl
       back x (spanned {p = p} {n = n} {high = hi} {low = lo} f m u h y z) = unfold ascii spanStep in
-          in-focus i p f ∙ rw (no-step p _ m (stated-by p), double-in s es M p .only hi y, double-in s es M p .only lo z, count-in s es M p .only n u, lt-ltb 1 n h) refl
+          in-focus i p f ∙ rw (
+            no-step p _ m (stated-by p),
+            double-in s es M p .only hi y,
+            double-in s es M p .only lo z,
+            count-in s es M p .only n u,
+            lt-ltb 1 n h,
+          ) refl
 
 -- ---- the first step in tree order
 

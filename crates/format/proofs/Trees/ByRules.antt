@@ -13,10 +13,17 @@ use Rattle.format.proofs.Trees.PickedReading.{pick-by, stopIf-by}
 use Rattle.format.specs.Bytes.{leAt, part}
 use Rattle.format.specs.Text.{units}
 use Rattle.format.specs.declared.Range.{Range}
-use Rattle.format.specs.Trees.{Stop, at, fault, Read, ends, entered, pick, stopIf, follow, then, fixedValue, textUnits, textValue, bytesValue, levelEnd, Children, childrenOr9, levelValue, fixedLen, value, known, ChildrenAt, entryOf, recordAt, records, childrenAt, read, treeIn, mostItems, mostDepth, packedType}
+use Rattle.format.specs.Trees.{Stop, at, fault, Read, ends, entered, pick, stopIf, follow, then, fixedValue, textUnits, textValue, bytesValue}
+use Rattle.format.specs.Trees.{levelEnd, Children, childrenOr9, levelValue, fixedLen, value, known, ChildrenAt, entryOf, recordAt, records}
+use Rattle.format.specs.Trees.{childrenAt, read, treeIn, mostItems, mostDepth, packedType}
 use Rattle.format.specs.Grammar.Lists.{In}
 use Rattle.format.specs.Grammar.Lists.{here as first, behind as further}
-use Rattle.format.specs.Grammar.Trees.{valueStart, Head, Fixed, bool, i32, u32, i64, u64, f64, pointer, Units, Plain, fixed, text-ended, text-cut, bytes, countAt, kidsFrom, kidsTo, levelTo, Level, NameUnits, unnamed, but-last, EntryOf, Records, counted, quiet, plain, nested, Kind, of-value, of-level, Judged, Wrong, packed-type, type-0, type-10, name-cut, unknown, number-cut, bytes-cut, count-cut, items-over, length-cut, length-under, kids-cut, too-deep, Faults, here, behind-plain, behind-level, inside, skip-cut, Passes, none-yet, this, this-and-more, this-and-inside, level-and-more, PassedIn, Tree, Faulty}
+use Rattle.format.specs.Grammar.Trees.{valueStart, Head, Fixed, bool, i32, u32, i64, u64, f64, pointer, Units, Plain, fixed, text-ended}
+use Rattle.format.specs.Grammar.Trees.{text-cut, bytes, countAt, kidsFrom, kidsTo, levelTo, Level, NameUnits, unnamed, but-last, EntryOf}
+use Rattle.format.specs.Grammar.Trees.{Records, counted, quiet, plain, nested, Kind, of-value, of-level, Judged, Wrong, packed-type, type-0}
+use Rattle.format.specs.Grammar.Trees.{type-10, name-cut, unknown, number-cut, bytes-cut, count-cut, items-over, length-cut, length-under}
+use Rattle.format.specs.Grammar.Trees.{kids-cut, too-deep, Faults, here, behind-plain, behind-level, inside, skip-cut, Passes, none-yet, this}
+use Rattle.format.specs.Grammar.Trees.{this-and-more, this-and-inside, level-and-more, PassedIn, Tree, Faulty}
 use Rattle.format.specs.Refusals as why
 use Rattle.format.specs.declared.Entry.{Entry}
 
@@ -74,8 +81,11 @@ count-text (suc m) d v = go (eqb (leAt 2 d v) 0) refl (textUnits (units m d (v +
     go : (b : Bool) → eqb (leAt 2 d v) 0 ≡ b → (n : ℕ) → Units d (v + 2) n × (n ≤ m) × (n < m → leAt 2 d (v + 2 + 2 * n) ≡ 0)
         → Units d v (cond b 0 (suc n)) × (cond b 0 (suc n) ≤ suc m) × (cond b 0 (suc n) < suc m → leAt 2 d (v + 2 * cond b 0 (suc n)) ≡ 0)
     go true q n r = ((λ j h. omega arith), omega arith, (λ h. let e : v + 2 * 0 ≡ v = omega arith in rw e (eqb-true _ _ q)))
-    go false q n r =
-        (units-more d v n (eqb-false _ _ q) (r .0), omega (arith, r .1), (λ h. let e : v + 2 * suc n ≡ v + 2 + 2 * n = omega arith in rw e (r .2 (omega arith))))
+    go false q n r = (
+      units-more d v n (eqb-false _ _ q) (r .0),
+      omega (arith, r .1),
+      (λ h. let e : v + 2 * suc n ≡ v + 2 + 2 * n = omega arith in rw e (r .2 (omega arith))),
+    )
 
 -- ---- values that are no levels
 
@@ -267,14 +277,16 @@ module _ (d : List ℕ) (base : ℕ) where
   records-read left parent count used i e es p (nested {left = m} {count = n} {p = q} {en = en} {ks = ks} {es = fs} l x kr h r) =
       rw (entry-is d base parent i (kidsFrom d i) (kidsTo d i - kidsFrom d i) en x)
       (passed _ _ (ltb e (i + 2)) _ (le-ltb e (i + 2) (omega (arith, l .head .name-within)))
-      (then-read (recordAt d base (childrenAt left d base) parent used i e) _ (entryOf d base parent i (kidsFrom d i) (kidsTo d i - kidsFrom d i) ∷ ks) fs (levelTo d i) (at p)
+      (then-read (recordAt d base (childrenAt left d base) parent used i e) _
+      (entryOf d base parent i (kidsFrom d i) (kidsTo d i - kidsFrom d i) ∷ ks) fs (levelTo d i) (at p)
       (level-one m parent used i e l
       ∙ kids-read (kidsOf m used) (countAt d i) (kidsFrom d i) (kidsTo d i) (entryOf d base parent i) e ks q
       (records-read m (suc used) (countAt d i) (suc used) (kidsFrom d i) (kidsTo d i) ks q kr) h)
       (records-read left parent n (used + suc (length ks)) (levelTo d i) e fs p r)))
 
   -- ---- faults
-  then-stop : (r : Read) (k : ℕ → ℕ → Read) (es : List Entry) (p : ℕ) (t : Stop) → r ≡ record { entries = es; stop = at p } → k (length es) p .stop ≡ t → then r k .stop ≡ t
+  then-stop : (r : Read) (k : ℕ → ℕ → Read) (es : List Entry) (p : ℕ) (t : Stop) → r ≡ record { entries = es; stop = at p }
+      → k (length es) p .stop ≡ t → then r k .stop ≡ t
   unfolding follow
   then-stop r k es p t e f = rw (e, f) refl
 
@@ -495,26 +507,31 @@ module _ (d : List ℕ) (base : ℕ) where
       omega arith
 
   -- from what one whole record and the others have
-  rest-length : (c : ChildrenAt) (parent count used i e n : ℕ) (es : List Entry) (p : ℕ) → i + 2 ≤ e → recordAt d base c parent used i e ≡ record { entries = es; stop = at p }
-      → n ≤ length (records d base c parent count (used + length es) p e .entries) → length es + n ≤ length (records d base c parent (suc count) used i e .entries)
+  rest-length : (c : ChildrenAt) (parent count used i e n : ℕ) (es : List Entry) (p : ℕ) → i + 2 ≤ e
+      → recordAt d base c parent used i e ≡ record { entries = es; stop = at p }
+      → n ≤ length (records d base c parent count (used + length es) p e .entries)
+      → length es + n ≤ length (records d base c parent (suc count) used i e .entries)
   rest-length c parent count used i e n es p h q l =
       let q₁ = ap (λ (r : Read). length (r .entries)) (records-step c parent count used i e h) in
       let q₂ = then-length (recordAt d base c parent used i e) (λ n p. records d base c parent count (used + n) p e) es p q in
       omega arith
 
-  head-length : (c : ChildrenAt) (parent used i e k n : ℕ) → Head d i e k → Known k → n ≤ length (value d (c used) k i (valueStart d i) e (entryOf d base parent i) .entries)
+  head-length : (c : ChildrenAt) (parent used i e k n : ℕ) → Head d i e k → Known k
+      → n ≤ length (value d (c used) k i (valueStart d i) e (entryOf d base parent i) .entries)
       → n ≤ length (recordAt d base c parent used i e .entries)
   head-length c parent used i e k n h w l =
       let q = ap (λ (r : Read). length (r .entries)) (head-read d base c parent used i e k _ h w refl) in
       omega arith
 
-  passes-read : (left parent count used i e n : ℕ) → Passes d base left parent count used i e n → n ≤ length (records d base (childrenAt left d base) parent count used i e .entries)
+  passes-read : (left parent count used i e n : ℕ) → Passes d base left parent count used i e n
+      → n ≤ length (records d base (childrenAt left d base) parent count used i e .entries)
   unfolding childrenAt
   passes-read left parent count used i e n none-yet = omega arith
   passes-read left parent count used i e n (this {count = c} {k = k} h w) =
       let v = h .name-within in
       step-length (childrenAt left d base) parent c used i e 1 (omega arith)
-      (head-length (childrenAt left d base) parent used i e k 1 h (kind-known k w) (value-some d (childrenAt left d base used) k i (valueStart d i) e (entryOf d base parent i)))
+      (head-length (childrenAt left d base) parent used i e k 1 h (kind-known k w)
+      (value-some d (childrenAt left d base used) k i (valueStart d i) e (entryOf d base parent i)))
   passes-read left parent count used i e n (this-and-more {count = c} {k = k} {from} {len} {p = q} {n = m} h v r) =
       let w = h .name-within in
       let l = rest-length (childrenAt left d base) parent c used i e m (entryOf d base parent i from len ∷ []) q (omega arith)
@@ -529,7 +546,8 @@ module _ (d : List ℕ) (base : ℕ) where
       step-length (childrenAt left d base) parent c used i e (suc m) (omega arith) (omega arith)
   passes-read left parent count used i e n (level-and-more {left = l′} {count = c} {p = q} {n = m} {ks = ks} l kr h r) =
       let w = l .head .name-within in
-      let k = rest-length (childrenAt left d base) parent c used i e m (entryOf d base parent i (kidsFrom d i) (kidsTo d i - kidsFrom d i) ∷ ks) (levelTo d i) (omega arith)
+      let k = rest-length (childrenAt left d base) parent c used i e m (entryOf d base parent i (kidsFrom d i) (kidsTo d i - kidsFrom d i) ∷ ks)
+      (levelTo d i) (omega arith)
       (level-one d base l′ parent used i e l
       ∙ kids-read d base (kidsOf d base l′ used) (countAt d i) (kidsFrom d i) (kidsTo d i) (entryOf d base parent i) e ks q
       (records-read d base l′ (suc used) (countAt d i) (suc used) (kidsFrom d i) (kidsTo d i) ks q kr) h)
@@ -582,15 +600,18 @@ fixed-kind (suc (suc (suc (suc (suc (suc (suc (suc k)))))))) a b c e =
 module _ (d : List ℕ) (base : ℕ) where
   -- one record, with its entries and the place after it
   data One (parent used i e : ℕ) : ℕ → List Entry → ℕ → Type 0 where
-    one-plain : {left k from len p : ℕ} → Head d i e k → Plain d e (valueStart d i) k from len p → One parent used i e left (entryOf d base parent i from len ∷ []) p
-    one-level : {m p : ℕ} {ks : List Entry} → Level d i e → Records d base m (suc used) (countAt d i) (suc used) (kidsFrom d i) (kidsTo d i) ks p → levelTo d i ≤ e
+    one-plain : {left k from len p : ℕ} → Head d i e k → Plain d e (valueStart d i) k from len p
+        → One parent used i e left (entryOf d base parent i from len ∷ []) p
+    one-level : {m p : ℕ} {ks : List Entry} → Level d i e → Records d base m (suc used) (countAt d i) (suc used) (kidsFrom d i) (kidsTo d i) ks p
+        → levelTo d i ≤ e
         → One parent used i e (suc m) (entryOf d base parent i (kidsFrom d i) (kidsTo d i - kidsFrom d i) ∷ ks) (levelTo d i)
 
   -- one record with a fault, its own or one in it
   data Into (used i e : ℕ) : ℕ → ℕ → Type 0 where
     into-here : {left n : ℕ} → Wrong d i e left n → Into used i e left n
     into-level : {m n : ℕ} → Level d i e → Faults d base m (suc used) (countAt d i) (suc used) (kidsFrom d i) (kidsTo d i) n → Into used i e (suc m) n
-    into-skip : {m p : ℕ} {ks : List Entry} → Level d i e → Records d base m (suc used) (countAt d i) (suc used) (kidsFrom d i) (kidsTo d i) ks p → e < levelTo d i
+    into-skip : {m p : ℕ} {ks : List Entry} → Level d i e → Records d base m (suc used) (countAt d i) (suc used) (kidsFrom d i) (kidsTo d i) ks p
+        → e < levelTo d i
         → Into used i e (suc m) why.cut
 
   -- how many records pass in one record
@@ -612,15 +633,18 @@ module _ (d : List ℕ) (base : ℕ) where
   -- what reads children of a record that `used` entries come before
   data KidsFormed (used : ℕ) : ℕ → Children → Type 0 where
     deepest : KidsFormed used 0 none
-    deeper : {m : ℕ} {f : ℕ → ℕ → ℕ → Read} → ((count from to : ℕ) → Formed m (suc used) count (suc used) from to (f count from to)) → KidsFormed used (suc m) (some f)
+    deeper : {m : ℕ} {f : ℕ → ℕ → ℕ → Read} → ((count from to : ℕ) → Formed m (suc used) count (suc used) from to (f count from to))
+        → KidsFormed used (suc m) (some f)
 
   -- a reading that ends with a fault
-  stopped-one : (left parent used i e : ℕ) (r : Read) (n : ℕ) → r .stop ≡ fault n → Into used i e left n → Pass used i e left (length (r .entries)) → FormedOne left parent used i e r
+  stopped-one : (left parent used i e : ℕ) (r : Read) (n : ℕ) → r .stop ≡ fault n → Into used i e left n → Pass used i e left (length (r .entries))
+      → FormedOne left parent used i e r
   stopped-one left parent used i e r n q w k =
       record { ends-at = λ p f. absurd (at≢fault (sym f ∙ q)); ends-fault = λ m f. rw (sym (fault-inj (sym q ∙ f))) w; pass = k }
 
   -- with a fault of the record itself
-  fault-one : (left parent used i e : ℕ) (r : Read) (n : ℕ) → r .stop ≡ fault n → Wrong d i e left n → Pass used i e left (length (r .entries)) → FormedOne left parent used i e r
+  fault-one : (left parent used i e : ℕ) (r : Read) (n : ℕ) → r .stop ≡ fault n → Wrong d i e left n → Pass used i e left (length (r .entries))
+      → FormedOne left parent used i e r
   fault-one left parent used i e r n q w k = stopped-one left parent used i e r n q (into-here w) k
 
   -- a value that is no level and ends at p
@@ -692,7 +716,8 @@ module _ (d : List ℕ) (base : ℕ) where
   end-formed : (m parent used i e : ℕ) (l : Level d i e) (ks : List Entry) (t : Stop)
       → Formed m (suc used) (countAt d i) (suc used) (kidsFrom d i) (kidsTo d i) (record { entries = ks; stop = t })
       → FormedOne (suc m) parent used i e
-      (then (entered (entryOf d base parent i (kidsFrom d i) (kidsTo d i - kidsFrom d i)) (at (kidsFrom d i))) λ n p. follow ks t λ n q. ends (levelEnd (countAt d i) (kidsTo d i) e))
+      (then (entered (entryOf d base parent i (kidsFrom d i) (kidsTo d i - kidsFrom d i)) (at (kidsFrom d i)))
+      λ n p. follow ks t λ n q. ends (levelEnd (countAt d i) (kidsTo d i) e))
   unfolding follow levelEnd
   end-formed m parent used i e l ks (fault n) f =
       record { ends-at = λ p q. absurd (at≢fault (sym q)); ends-fault = λ n q. into-level l (f .ends-fault n q); pass = pass-inside l (f .passes) }
@@ -703,7 +728,10 @@ module _ (d : List ℕ) (base : ℕ) where
 
       go : (b : Bool) → leb (levelTo d i) e ≡ b
           → FormedOne (suc m) parent used i e
-          (record { entries = (entryOf d base parent i (kidsFrom d i) (kidsTo d i - kidsFrom d i) ∷ []) ++ (ks ++ []); stop = cond b (at (levelTo d i)) (fault 6) })
+          (record {
+            entries = (entryOf d base parent i (kidsFrom d i) (kidsTo d i - kidsFrom d i) ∷ []) ++ (ks ++ []);
+            stop = cond b (at (levelTo d i)) (fault 6);
+          })
       go true h =
           record {
             ends-at = λ p z. rw (append-nil, ← at-inj z) (one-level l (f .ends-at q refl) (leb-true _ _ h));
@@ -717,7 +745,8 @@ module _ (d : List ℕ) (base : ℕ) where
   unfolding childrenOr9
   kids-formed left parent used i e c deepest l = fault-one 0 parent used i e _ 9 refl (too-deep l) (pass-this (l .head) of-level)
   kids-formed left parent used i e c (deeper {m = m} {f = f} k) l =
-      end-formed m parent used i e l (f (countAt d i) (kidsFrom d i) (kidsTo d i) .entries) (f (countAt d i) (kidsFrom d i) (kidsTo d i) .stop) (k (countAt d i) (kidsFrom d i) (kidsTo d i))
+      end-formed m parent used i e l (f (countAt d i) (kidsFrom d i) (kidsTo d i) .entries) (f (countAt d i) (kidsFrom d i) (kidsTo d i) .stop)
+      (k (countAt d i) (kidsFrom d i) (kidsTo d i))
 
   level-formed : (left parent used i e : ℕ) (c : Children) → KidsFormed used left c → Head d i e 11
       → FormedOne left parent used i e (levelValue d c i (valueStart d i) e (entryOf d base parent i))
@@ -741,7 +770,8 @@ module _ (d : List ℕ) (base : ℕ) where
       wrong : (n : ℕ) → Wrong d i e left n → FormedOne left parent used i e (entered (entryOf d base parent i (valueStart d i) 0) (fault n))
       wrong n w = fault-one left parent used i e _ n refl w (pass-this h of-level)
 
-  record-formed : (left parent used i e : ℕ) (c : ChildrenAt) → KidsFormed used left (c used) → FormedOne left parent used i e (recordAt d base c parent used i e)
+  record-formed : (left parent used i e : ℕ) (c : ChildrenAt) → KidsFormed used left (c used)
+      → FormedOne left parent used i e (recordAt d base c parent used i e)
   unfolding recordAt value
   record-formed left parent used i e c k =
       let n = getD d i 0 in
@@ -755,7 +785,8 @@ module _ (d : List ℕ) (base : ℕ) where
       } in
       stopIf-by F (ltb e (valueStart d i)) 6 _ (λ q. stop 6 (name-cut j (ltb-true _ _ q))) λ q₃.
       stopIf-by F (not (known n)) 7 _
-      (λ q. stop 7 (unknown (record { kind = refl; name-within = ltb-false _ _ q₃ }) j λ w. true≢false (sym (kind-known n w .is-known) ∙ not-true (known n) q))) λ q₄.
+      (λ q. stop 7 (unknown (record { kind = refl; name-within = ltb-false _ _ q₃ }) j
+      λ w. true≢false (sym (kind-known n w .is-known) ∙ not-true (known n) q))) λ q₄.
       let within : valueStart d i ≤ e = ltb-false _ _ q₃ in
       pick-by F (eqb n 11) _ _ (λ q. level-formed left parent used i e (c used) k (record { kind = eqb-true n 11 q; name-within = within })) λ k₁.
       pick-by F (eqb n 9) _ _ (λ q. bytes-formed left parent used i e within (eqb-true n 9 q)) λ k₂.
@@ -774,12 +805,14 @@ module _ (d : List ℕ) (base : ℕ) where
       either false p false q z = absurd (true≢false (sym z))
 
   -- one record, and the others
-  join : (left parent count used i e : ℕ) (es fs : List Entry) (p q : ℕ) → One parent used i e left es p → Records d base left parent count (used + length es) p e fs q
+  join : (left parent count used i e : ℕ) (es fs : List Entry) (p q : ℕ) → One parent used i e left es p
+      → Records d base left parent count (used + length es) p e fs q
       → Records d base left parent (suc count) used i e (es ++ fs) q
   join left parent count used i e es fs p q (one-plain {from = from} {len} h v) r = plain h v (entry-made d base parent i from len) r
   join left parent count used i e es fs p q (one-level l k h) r = nested l (entry-made d base parent i (kidsFrom d i) (kidsTo d i - kidsFrom d i)) k h r
 
-  join-fault : (left parent count used i e n : ℕ) (es : List Entry) (p : ℕ) → One parent used i e left es p → Faults d base left parent count (used + length es) p e n
+  join-fault : (left parent count used i e n : ℕ) (es : List Entry) (p : ℕ) → One parent used i e left es p
+      → Faults d base left parent count (used + length es) p e n
       → Faults d base left parent (suc count) used i e n
   join-fault left parent count used i e n es p (one-plain h v) r = behind-plain h v r
   join-fault left parent count used i e n es p (one-level l k h) r = behind-level l k h r
@@ -794,7 +827,8 @@ module _ (d : List ℕ) (base : ℕ) where
   pass-passes left parent count used i e n (pass-this h k) = this h k
   pass-passes left parent count used i e n (pass-inside l p) = this-and-inside l p
 
-  join-passes : (left parent count used i e : ℕ) (es fs : List Entry) (p : ℕ) → One parent used i e left es p → Passes d base left parent count (used + length es) p e (length fs)
+  join-passes : (left parent count used i e : ℕ) (es fs : List Entry) (p : ℕ) → One parent used i e left es p
+      → Passes d base left parent count (used + length es) p e (length fs)
       → Passes d base left parent (suc count) used i e (length (es ++ fs))
   join-passes left parent count used i e es fs p (one-plain h v) r = this-and-more h v r
   join-passes left parent count used i e es fs p (one-level {ks = ks} l k h) r = rw (length-append ks fs) (level-and-more l k h r)
@@ -804,7 +838,11 @@ module _ (d : List ℕ) (base : ℕ) where
       → Formed left parent (suc count) used i e (follow es t k)
   unfolding follow
   then-formed left parent count used i e es (fault n) k h f g =
-      record { ends-at = λ p z. absurd (at≢fault (sym z)); ends-fault = λ m z. into-faults left parent count used i e m h (f .ends-fault m z); passes = pass-passes left parent count used i e (length es) (f .pass) }
+      record {
+        ends-at = λ p z. absurd (at≢fault (sym z));
+        ends-fault = λ m z. into-faults left parent count used i e m h (f .ends-fault m z);
+        passes = pass-passes left parent count used i e (length es) (f .pass);
+      }
   then-formed left parent count used i e es (at p) k h f g =
       record {
         ends-at = λ q z. join left parent count used i e es (k (length es) p .entries) p q (f .ends-at p refl) (g p .ends-at q z);
@@ -826,7 +864,8 @@ module _ (d : List ℕ) (base : ℕ) where
   children-formed : (left used : ℕ) → KidsFormed used left (childrenAt left d base used)
   unfolding childrenAt
   children-formed zero used = deepest
-  children-formed (suc left) used = deeper λ count from to. records-formed left (childrenAt left d base) (children-formed left) (suc used) count (suc used) from to
+  children-formed (suc left) used =
+      deeper λ count from to. records-formed left (childrenAt left d base) (children-formed left) (suc used) count (suc used) from to
 
 -- ---- the faults' numbers
 

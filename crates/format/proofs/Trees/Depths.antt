@@ -14,7 +14,8 @@ use Rattle.format.proofs.Trees.ByRules.{plain-of}
 use Rattle.format.specs.Bytes.{part}
 use Rattle.format.specs.declared.Range.{Range}
 use Rattle.format.specs.Trees.{mostDepth}
-use Rattle.format.specs.Grammar.Trees.{valueStart, Plain, fixed, text-ended, text-cut, bytes, bool, i32, u32, i64, u64, f64, pointer, countAt, kidsFrom, kidsTo, levelTo, Records, counted, quiet, plain, nested, of-level, Tree}
+use Rattle.format.specs.Grammar.Trees.{valueStart, Plain, fixed, text-ended, text-cut, bytes, bool, i32, u32, i64, u64, f64, pointer, countAt}
+use Rattle.format.specs.Grammar.Trees.{kidsFrom, kidsTo, levelTo, Records, counted, quiet, plain, nested, of-level, Tree}
 use Rattle.format.specs.declared.Entry.{Entry}
 
 -- the entries es, numbered from n on, have the depths D, and known types
@@ -116,7 +117,8 @@ unfolding Above
 above-more D E parent used more here a h l y z = let (k, m) = a y z in (omega arith, rw (h y k) m)
 
 head-depth : (D E : ℕ → ℕ) (parent used here : ℕ) (en : Entry) (es : List Entry) → Typed en → Above D parent used here
-    → (en .kind ≡ 11 → here < mostDepth) → en .parent ≡ parent → ((x : ℕ) → x < suc used → E x ≡ put D used here x) → Ranked E (suc used) es → Ranked E used (en ∷ es)
+    → (en .kind ≡ 11 → here < mostDepth) → en .parent ≡ parent → ((x : ℕ) → x < suc used → E x ≡ put D used here x) → Ranked E (suc used) es
+    → Ranked E used (en ∷ es)
 unfolding Above
 head-depth D E parent used here en es y a k q kept r =
     cons {n = used} y (λ z. rw at-used (k z))
@@ -144,18 +146,21 @@ plain-depths D parent used here en fs t a k q x =
     }
 
 level-depths : (D : ℕ → ℕ) (parent used here : ℕ) (en : Entry) (ks fs : List Entry) → Typed en → Above D parent used here
-    → here < mostDepth → en .parent ≡ parent → (x : Depthed (put D used here) (suc used) ks) → Depthed (x .E) (used + suc (length ks)) fs → Depthed D used (en ∷ ks ++ fs)
+    → here < mostDepth → en .parent ≡ parent → (x : Depthed (put D used here) (suc used) ks) → Depthed (x .E) (used + suc (length ks)) fs
+    → Depthed D used (en ∷ ks ++ fs)
 level-depths D parent used here en ks fs t a k q x y =
     let sum : used + suc (length ks) ≡ suc used + length ks = omega arith in
     record {
       E = y .E;
       kept = λ z l. y .kept z (omega arith) ∙ (x .kept z (omega arith) ∙ put-there D used here z l);
       ranked = head-depth D (y .E) parent used here en (ks ++ fs) t a (λ _. k) q (λ z l. y .kept z (omega arith) ∙ x .kept z l)
-          (ranked-append (y .E) (suc used) ks fs (ranked-same (x .E) (y .E) (suc used) ks (λ z l. sym (y .kept z (omega arith))) (x .ranked)) (rw sum at (y .ranked)));
+          (ranked-append (y .E) (suc used) ks fs (ranked-same (x .E) (y .E) (suc used) ks (λ z l. sym (y .kept z (omega arith))) (x .ranked))
+          (rw sum at (y .ranked)));
     }
 
 module _ (d : List ℕ) (base : ℕ) where
-  depths : (left parent count used i e : ℕ) (es : List Entry) (p : ℕ) → Records d base left parent count used i e es p → (D : ℕ → ℕ) (here : ℕ) → here + left ≡ mostDepth
+  depths : (left parent count used i e : ℕ) (es : List Entry) (p : ℕ) → Records d base left parent count used i e es p → (D : ℕ → ℕ) (here : ℕ)
+      → here + left ≡ mostDepth
       → Above D parent used here → Depthed D used es
   depths left parent count used i e es p counted D here hl a = record { E = D; kept = λ x h. refl; ranked = nil }
   depths left parent count used i e es p (quiet h) D here hl a = record { E = D; kept = λ x h. refl; ranked = nil }
@@ -165,8 +170,10 @@ module _ (d : List ℕ) (base : ℕ) where
       (λ z. plain-kind d e (valueStart d i) k from len q v (sym own ∙ z)) (x .parent-is)
       (depths left parent n (used + 1) q e fs p r (put D used here) here hl (put-above D parent used here a))
   depths left parent count used i e es p (nested {left = m} {count = n} {p = q} {en = en} {ks = ks} {es = fs} l y kr h r) D here hl a =
-      let x = depths m (suc used) (countAt d i) (suc used) (kidsFrom d i) (kidsTo d i) ks q kr (put D used here) (suc here) (omega arith) (kids-above D used here) in
-      let b = above-more (put D used here) (x .E) parent (used + 1) (used + suc (length ks)) here (put-above D parent used here a) (λ z j. x .kept z (omega arith)) (omega arith) in
+      let x = depths m (suc used) (countAt d i) (suc used) (kidsFrom d i) (kidsTo d i) ks q kr (put D used here) (suc here) (omega arith)
+      (kids-above D used here) in
+      let b = above-more (put D used here) (x .E) parent (used + 1) (used + suc (length ks)) here (put-above D parent used here a)
+      (λ z j. x .kept z (omega arith)) (omega arith) in
       level-depths D parent used here en ks fs (level-typed en (y .kind ∙ l .head .kind)) a (omega arith) (y .parent-is) x
       (depths left parent n (used + suc (length ks)) (levelTo d i) e fs p r (x .E) here hl b)
 
@@ -174,5 +181,6 @@ module _ (d : List ℕ) (base : ℕ) where
 pub tree-depths : (s : List ℕ) (r : Range) (es : List Entry) → Tree s r es → (D : ℕ → ℕ) × Ranked D 0 es
 unfolding Above
 tree-depths s r es t =
-    let x = depths (part s (r .start) (r .len)) (r .start) mostDepth 0 1 0 0 (length (part s (r .start) (r .len))) es (t .place-after) (t .record-at-0) (λ _. 0) 0 refl (λ y z. omega arith) in
+    let x = depths (part s (r .start) (r .len)) (r .start) mostDepth 0 1 0 0 (length (part s (r .start) (r .len))) es (t .place-after)
+    (t .record-at-0) (λ _. 0) 0 refl (λ y z. omega arith) in
     (x .E, x .ranked)

@@ -127,7 +127,8 @@ pub forest-nested : {lo hi : ℕ} (p u : ℕ) (l : List Entry) (q i k : ℕ) (x 
     → getElem? l k ≡ some y → i ≤ k → q ≤ u + i → x .parent < q → y .parent ≡ q → ⊥
 forest-nested p u l q i k x y (bare o′) o h m a b c d = none≢some h
 forest-nested p u l q i k x y (tree e ks rs w f r) o h m a b c d =
-    go (λ i k h m a b c d. forest-nested (suc u) (suc u) ks q i k x y f (omega arith) h m a b c d) (λ i k h m a b c d. forest-nested p (suc u + length ks) rs q i k x y r (omega arith) h m a b c d)
+    go (λ i k h m a b c d. forest-nested (suc u) (suc u) ks q i k x y f (omega arith) h m a b c d)
+    (λ i k h m a b c d. forest-nested p (suc u + length ks) rs q i k x y r (omega arith) h m a b c d)
     (where-is e ks rs i x h) (where-is e ks rs k y m)
   where
     kid : (j : ℕ) (z : Entry) → getElem? ks j ≡ some z → u < z .parent

@@ -14,7 +14,9 @@ use Rattle.format.proofs.Trees.PickedReading.{pick-by, stopIf-by}
 use Rattle.format.specs.Bytes.{leAt, part}
 use Rattle.format.specs.Text.{units}
 use Rattle.format.specs.declared.Range.{Range}
-use Rattle.format.specs.Trees.{Stop, at, fault, Read, ends, entered, follow, then, fixedValue, textUnits, textValue, bytesValue, levelEnd, Children, childrenOr9, levelValue, fixedLen, value, known, ChildrenAt, entryOf, recordAt, records, childrenAt, read, treeIn, mostItems, mostDepth, packedType}
+use Rattle.format.specs.Trees.{Stop, at, fault, Read, ends, entered, follow, then, fixedValue, textUnits, textValue, bytesValue, levelEnd}
+use Rattle.format.specs.Trees.{Children, childrenOr9, levelValue, fixedLen, value, known, ChildrenAt, entryOf, recordAt, records, childrenAt}
+use Rattle.format.specs.Trees.{read, treeIn, mostItems, mostDepth, packedType}
 use Rattle.format.specs.declared.Entry.{Entry}
 
 -- where a reading stops, and the level's end where it faults
@@ -67,7 +69,9 @@ module _ (start v e : ℕ) (head : start + 2 ≤ v) (fits : v ≤ e) (entry : �
   bytes-fits d = go (leAt 8 d v) (leb (v + 8) e && leb (v + 8 + leAt 8 d v) e) refl
     where
       go : (n : ℕ) (b : Bool) → (leb (v + 8) e && leb (v + 8 + n) e) ≡ b → Fits start e (entered (entry (v + 8) n) (cond b (at (v + 8 + n)) (fault 6)))
-      go n true q = let h = leb-true (v + 8 + n) e (and-right (leb (v + 8) e) (leb (v + 8 + n) e) q) in record { room = omega arith; within = omega arith; low = omega arith }
+      go n true q =
+          let h = leb-true (v + 8 + n) e (and-right (leb (v + 8) e) (leb (v + 8 + n) e) q) in
+          record { room = omega arith; within = omega arith; low = omega arith }
       go n false q = record { room = omega arith; within = omega arith; low = omega arith }
 
   faulted : (a n k : ℕ) → k ≤ 10 → Fits start e (entered (entry a n) (fault k))
@@ -149,7 +153,8 @@ then-fits i e es (at p) k f g =
     let r = g p h in
     record { room = rw length-append (omega arith); within = r .within; low = r .low }
 
-records-fits : (d : List ℕ) (base : ℕ) (c : ChildrenAt) → ((u : ℕ) → Kids (c u)) → (parent count used i e : ℕ) → i ≤ e → Fits i e (records d base c parent count used i e)
+records-fits : (d : List ℕ) (base : ℕ) (c : ChildrenAt) → ((u : ℕ) → Kids (c u)) → (parent count used i e : ℕ) → i ≤ e
+    → Fits i e (records d base c parent count used i e)
 unfolding records
 records-fits d base c k parent zero used i e h = record { room = omega arith; within = h; low = omega arith }
 records-fits d base c k parent (suc count) used i e h =
@@ -160,7 +165,8 @@ records-fits d base c k parent (suc count) used i e h =
 children-fits : (levels : ℕ) (d : List ℕ) (base used : ℕ) → Kids (childrenAt levels d base used)
 unfolding childrenAt
 children-fits zero d base used = tt
-children-fits (suc levels) d base used = λ count from to h. records-fits d base (childrenAt levels d base) (children-fits levels d base) (suc used) count (suc used) from to h
+children-fits (suc levels) d base used =
+    λ count from to h. records-fits d base (childrenAt levels d base) (children-fits levels d base) (suc used) count (suc used) from to h
 
 fits-tree : (s : List ℕ) (r : Range) → Fits 0 (length (part s (r .start) (r .len))) (treeIn s r)
 unfolding treeIn read

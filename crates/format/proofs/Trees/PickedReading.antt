@@ -28,11 +28,13 @@ pub whole-read : (room : ℕ) (t : Read) (es : List Entry) → treeEntries (with
 unfolding within wholeTree
 whole-read room t es e = go (leb (length (t .entries)) room) refl e
   where
-    end : (ts : List Entry) (x : Stop) → wholeTree x ts ≡ given es → (p : ℕ) × (_≡_ {A = Read} (record { entries = ts; stop = x }) (record { entries = es; stop = at p }))
+    end : (ts : List Entry) (x : Stop) → wholeTree x ts ≡ given es
+        → (p : ℕ) × (_≡_ {A = Read} (record { entries = ts; stop = x }) (record { entries = es; stop = at p }))
     end ts (at p) e = (p, ap (λ (l : List Entry). record { entries = l; stop = at p }) (given-inj e))
     end ts (fault n) e = absurd (refused≢given e)
 
-    go : (b : Bool) → leb (length (t .entries)) room ≡ b → treeEntries (cond b t (record { entries = take room (t .entries); stop = fault why.table })) ≡ given es
+    go : (b : Bool) → leb (length (t .entries)) room ≡ b
+        → treeEntries (cond b t (record { entries = take room (t .entries); stop = fault why.table })) ≡ given es
         → (length (t .entries) ≤ room) × (p : ℕ) × (t ≡ record { entries = es; stop = at p })
     go true q e = let (p, z) = end (t .entries) (t .stop) e in (leb-true _ _ q, p, z)
     go false q e = absurd (refused≢given e)

@@ -36,7 +36,8 @@ table-append (x ∷ xs) ys = rw (table-append xs ys, append-assoc)
 -- an entry's six numbers, stored one after the other
 pub sets-entry : (t : List ℕ) (i : ℕ) (e : Entry)
     → sets t i (entryBytes e)
-    ≡ sets (sets (sets (sets (sets (sets t i (leBytes 8 (e .kind))) (i + 8) (leBytes 8 (e .name))) (i + 16) (leBytes 8 (e .units))) (i + 24) (leBytes 8 (e .value))) (i + 32) (leBytes 8 (e .size))) (i + 40) (leBytes 8 (e .parent))
+    ≡ sets (sets (sets (sets (sets (sets t i (leBytes 8 (e .kind))) (i + 8) (leBytes 8 (e .name))) (i + 16) (leBytes 8 (e .units))) (i + 24)
+    (leBytes 8 (e .value))) (i + 32) (leBytes 8 (e .size))) (i + 40) (leBytes 8 (e .parent))
 unfolding entryBytes
 sets-entry t i e = simp (sets-append, length-append, leBytes-length)
 
@@ -101,7 +102,8 @@ entry-later : (e : Entry) (ys : List ℕ) (i : ℕ) → entryIn (entryBytes e ++
 unfolding entryIn
 entry-later e ys i =
     let q : (j : ℕ) → leAt 8 (entryBytes e ++ ys) (48 * suc i + j) ≡ leAt 8 ys (48 * i + j) =
-    λ j. ap (leAt 8 (entryBytes e ++ ys)) (let x : 48 * suc i + j ≡ length (entryBytes e) + (48 * i + j) = rw length-entry (omega arith) in x) ∙ le-after 8 (entryBytes e) ys (48 * i + j) in
+    λ j. ap (leAt 8 (entryBytes e ++ ys)) (let x : 48 * suc i + j ≡ length (entryBytes e) + (48 * i + j) = rw length-entry (omega arith) in x)
+    ∙ le-after 8 (entryBytes e) ys (48 * i + j) in
     let q0 : leAt 8 (entryBytes e ++ ys) (48 * suc i) ≡ leAt 8 ys (48 * i) = simp add-zero at (q 0) in
     λ k. record { kind = q0 k; name = q 8 k; units = q 16 k; value = q 24 k; size = q 32 k; parent = q 40 k }
 
@@ -123,7 +125,8 @@ entries-back [] ys f = refl
 entries-back (e ∷ es) ys f =
     let t : (entryBytes e ++ tableBytes es) ++ ys ≡ entryBytes e ++ (tableBytes es ++ ys) = append-assoc (entryBytes e) (tableBytes es) ys in
     let a = entry-first e (tableBytes es ++ ys) (f .0) in
-    let b = firsts-agree (length es) (λ i. entryIn (entryBytes e ++ (tableBytes es ++ ys)) (suc i)) (entryIn (tableBytes es ++ ys)) (entry-later e (tableBytes es ++ ys)) in
+    let b = firsts-agree (length es) (λ i. entryIn (entryBytes e ++ (tableBytes es ++ ys)) (suc i)) (entryIn (tableBytes es ++ ys))
+    (entry-later e (tableBytes es ++ ys)) in
     ap (λ (x : List ℕ). entriesIn x (suc (length es))) t ∙ firsts-cons (length es) (entryIn (entryBytes e ++ (tableBytes es ++ ys)))
     ∙ ap (λ (x : Entry). x ∷ firsts (length es) (λ i. entryIn (entryBytes e ++ (tableBytes es ++ ys)) (suc i))) a
     ∙ ap (λ (l : List Entry). e ∷ l) (b ∙ entries-back es ys (f .1))

@@ -14,13 +14,16 @@ use Rattle.format.proofs.Values.Leaves.{Typed, leaf-read, read-leaf, le
 use Rattle.format.proofs.Trees.Depths.{Ranked, level-depth, child-depth, entry-typed}
 use Rattle.format.proofs.Text.Mended.{read-name}
 use Rattle.format.proofs.Ground.Lists.{all-append, all-map, all-rest, all-in, rising-above, just-first, just-unique}
-use Rattle.format.proofs.Values.Slots.{Latest, SlotAt, a-name, no-name, Slots, empty, slot, Holds, Kept, holds-empty, holds-rest, slot-first, slots-of, first-unique, latest-unique, holds-place, slots-length, slots-all, find-latest, find-holds}
+use Rattle.format.proofs.Values.Slots.{Latest, SlotAt, a-name, no-name, Slots, empty, slot, Holds, Kept, holds-empty, holds-rest, slot-first}
+use Rattle.format.proofs.Values.Slots.{slots-of, first-unique, latest-unique, holds-place, slots-length, slots-all, find-latest, find-holds}
 use Rattle.format.proofs.Values.Meaning.{Means}
 use Rattle.format.specs.Trees.{mostDepth}
-use Rattle.format.specs.Values.{Value, flag, whole, double, text, bytes, level, list, Slot, unnamed, nameOf, slotsOf, spread, elements, collapse, leaf, valueIf, valueFrom, valueAt, slotValue, find, mapOption, field, asLevel}
+use Rattle.format.specs.Values.{Value, flag, whole, double, text, bytes, level, list, Slot, unnamed, nameOf, slotsOf, spread, elements}
+use Rattle.format.specs.Values.{collapse, leaf, valueIf, valueFrom, valueAt, slotValue, find, mapOption, field, asLevel}
 use Rattle.format.specs.Loops.{addLevel, levelsOf, levelsIn, childLevels, sizeOf}
 use Rattle.format.specs.Grammar.Lists.{All, over, more, In, here, Rising, Just}
-use Rattle.format.specs.Grammar.Values.{LeafOf, NoList, NoLevel, Elements, Levels, Bears, Place, ValueOf, is-leaf, is-level, is-list, Field, PlaceValue, of-name, of-one, of-several, LevelsIn, SizeOf}
+use Rattle.format.specs.Grammar.Values.{LeafOf, NoList, NoLevel, Elements, Levels, Bears, Place, ValueOf, is-leaf, is-level, is-list, Field}
+use Rattle.format.specs.Grammar.Values.{PlaceValue, of-name, of-one, of-several, LevelsIn, SizeOf}
 use Rattle.format.specs.declared.Entry.{Entry}
 
 -- ---- kinds of values
@@ -183,7 +186,8 @@ module _ (s : List ℕ) (es : List Entry) where
   -- ---- the value of a level
 
   -- the value of the level of entry i, whose slots are r
-  collapse-value : (i : ℕ) (e : Entry) → getElem? es i ≡ some e → e .kind ≡ 11 → (val : ℕ → Value) → ((j : ℕ) → Bears s es (suc i) [] j → ValueOf s es j (val j))
+  collapse-value : (i : ℕ) (e : Entry) → getElem? es i ≡ some e → e .kind ≡ 11 → (val : ℕ → Value)
+      → ((j : ℕ) → Bears s es (suc i) [] j → ValueOf s es j (val j))
       → (js : List ℕ) (r : List Slot) → Rising js → ((n : List ℕ) (j : ℕ) → Bears s es (suc i) n j → Holds n r) → Slots (Bears s es (suc i)) js r
       → ValueOf s es i (collapse val i r)
   unfolding collapse elements
@@ -286,7 +290,8 @@ module _ (s : List ℕ) (es : List Entry) (D : ℕ → ℕ) (R : Ranked D 0 es) 
   elements-deeper i j v js l d a h (Elements.first f) = more d a
   elements-deeper i j v js l d a h (Elements.appended {l = m} e) =
       let x : D i < D j = d .deeper in
-      all-append (Deeper i) m js (all-map (Deeper j) (Deeper i) (λ k y. record { entry = y .entry; there = y .there; deeper = omega (arith, y .deeper) }) m (h m e)) a
+      all-append (Deeper i) m js
+      (all-map (Deeper j) (Deeper i) (λ k y. record { entry = y .entry; there = y .there; deeper = omega (arith, y .deeper) }) m (h m e)) a
 
   pub list-deeper : (i : ℕ) (v : Value) (l : List ℕ) → ValueOf s es i v → v ≡ list l → All (Deeper i) l
   list-deeper i v l (is-leaf {e = e} q k) z = absurd (leaf-list s e v k l z)

@@ -91,7 +91,10 @@ module _ (B C : List ℕ → ℕ → Type 0) (N : List ℕ → Type 0) (i : ℕ)
   slot-grows : (j : ℕ) (x : Slot) → (N (nameIn x) → ⊥) → SlotAt B j x → SlotAt C j x
   slot-grows j x h (a-name {u} {l} {n} f e) =
       a-name (first-grows (u ∷ n) j f)
-      (record { bears = g .old (u ∷ n) l (e .bears); none-later = λ k z c. ⊎-elim (e .none-later k z) (λ (e : N (u ∷ n) × (k ≡ i)). h (e .0)) (g .back (u ∷ n) k c) })
+      (record {
+        bears = g .old (u ∷ n) l (e .bears);
+        none-later = λ k z c. ⊎-elim (e .none-later k z) (λ (e : N (u ∷ n) × (k ≡ i)). h (e .0)) (g .back (u ∷ n) k c);
+      })
   slot-grows j x h (no-name {js} a) =
       no-name
       (record {
@@ -102,7 +105,8 @@ module _ (B C : List ℕ → ℕ → Type 0) (N : List ℕ → Type 0) (i : ℕ)
 
   slots-grow : (js : List ℕ) (r : List Slot) → ((j : ℕ) (n : List ℕ) → In j js → First B n j → N n → ⊥) → Slots B js r → Slots C js r
   slots-grow js r h empty = empty
-  slots-grow js r h (slot {j} {js = ks} {x} {r = q} a t) = slot (slot-grows j x (h j (nameIn x) here (slot-first a)) a) (slots-grow ks q (λ k n z. h k n (behind z)) t)
+  slots-grow js r h (slot {j} {js = ks} {x} {r = q} a t) =
+      slot (slot-grows j x (h j (nameIn x) here (slot-first a)) a) (slots-grow ks q (λ k n z. h k n (behind z)) t)
 
 -- ---- put
 
@@ -117,7 +121,12 @@ put-behind a (new t) = new (slot a t)
 module _ (B C : List ℕ → ℕ → Type 0) (n : List ℕ) (i : ℕ) (g : Grows B C (λ m. m ≡ n) i) (c : C n i) where
   -- of a name, i is the last entry; and the first, if there was none
   now-last : Latest C n i
-  now-last = record { bears = c; none-later = λ k h d. ⊎-elim (λ b. let z = g .above n k b in omega arith) (λ (e : (n ≡ n) × (k ≡ i)). omega (arith, e .1)) (g .back n k d) }
+  now-last =
+      record {
+        bears = c;
+        none-later = λ k h d. ⊎-elim (λ b. let z = g .above n k b in omega arith) (λ (e : (n ≡ n) × (k ≡ i)). omega (arith, e .1))
+            (g .back n k d);
+      }
 
   now-first : ((k : ℕ) → B n k → Holds n []) → First C n i
   now-first none-yet =
@@ -308,7 +317,8 @@ module _ (s : List ℕ) (es : List Entry) (p : ℕ) where
           absurd (none≢some (sym (rw z at (past (j - i))) ∙ b .there))
 
   more-seen : (N : List ℕ → Type 0) (i : ℕ) (e : Entry) → getElem? es i ≡ some e → (e .parent ≡ p → N (nameOf s e)) → Grows (Seen i) (Seen (suc i)) N i
-  more-seen N i e at-i named-so = record { old = λ n j b. record { before = omega (arith, b .before); bears = b .bears }; back = back; above = λ n j b. b .before }
+  more-seen N i e at-i named-so =
+      record { old = λ n j b. record { before = omega (arith, b .before); bears = b .bears }; back = back; above = λ n j b. b .before }
     where
       back : (n : List ℕ) (j : ℕ) → Seen (suc i) n j → Seen i n j ⊎ (N n × (j ≡ i))
       back n j b = ⊎-elim own (λ h. inl (record { before = h; bears = b .bears })) (eq-or-lt-of-le {n = j} {m = i} (omega (arith, b .before)))
@@ -318,11 +328,13 @@ module _ (s : List ℕ) (es : List Entry) (p : ℕ) where
               let z : b .bears .entry ≡ e = Option·some-inj .0 (sym (b .bears .there) ∙ rw q at-i) in
               inr (rw (read-name s (b .bears .entry) n (b .bears .name-is)) at (rw (← z) at (named-so (rw z at (b .bears .child)))), q)
 
-  slots-from : (i : ℕ) (fs : List Entry) (r : List Slot) → ((x : ℕ) → getElem? es (i + x) ≡ getElem? fs x) → Kept (Seen i) r → Kept (Bears s es p) (slotsFrom s p i fs r)
+  slots-from : (i : ℕ) (fs : List Entry) (r : List Slot) → ((x : ℕ) → getElem? es (i + x) ≡ getElem? fs x) → Kept (Seen i) r
+      → Kept (Bears s es p) (slotsFrom s p i fs r)
   unfolding slotsFrom
   slots-from i [] r same k = same-kept (Seen i) (Bears s es p) i r (all-seen i same) k
   slots-from i (e ∷ fs) r same k =
-      slots-from (suc i) fs (cond (eqb (e .parent) p) (put (nameOf s e) i r) r) (λ x. let z : i + suc x ≡ suc i + x = omega arith in rw z at (same (suc x))) (go (eqb (e .parent) p) refl)
+      slots-from (suc i) fs (cond (eqb (e .parent) p) (put (nameOf s e) i r) r)
+      (λ x. let z : i + suc x ≡ suc i + x = omega arith in rw z at (same (suc x))) (go (eqb (e .parent) p) refl)
     where
       at-i : getElem? es i ≡ some e
       at-i = let z : i + 0 ≡ i = omega arith in rw z at (same 0)
