@@ -95,7 +95,8 @@ module _ (f : ℕ → Bool) where
       go i zero = omega arith
       go i (suc m) = one (f i) i m (passing f (suc i) m) (go (suc i) m)
 
-  pick-first : (i m n k : ℕ) (xs ys : List ℕ) → n ≡ i + suc m → f i ≡ true → ((ys : List ℕ) (xs : List ℕ) → passing f (suc i) m ≡ xs ++ k ∷ ys → Picked f (suc i) n k ys)
+  pick-first : (i m n k : ℕ) (xs ys : List ℕ) → n ≡ i + suc m → f i ≡ true
+      → ((ys : List ℕ) (xs : List ℕ) → passing f (suc i) m ≡ xs ++ k ∷ ys → Picked f (suc i) n k ys)
       → i ∷ passing f (suc i) m ≡ xs ++ k ∷ ys → Picked f i n k ys
   unfolding between
   pick-first i m n k [] ys t b ih h =

@@ -14,7 +14,8 @@ use Rattle.format.proofs.Ground.Tests.{and-right}
 use Rattle.format.proofs.Values.LevelOrLeaf.{leaf-by}
 use Rattle.format.proofs.Values.OneMoreEntry.{step, put-some}
 use Rattle.format.specs.Bytes.{same}
-use Rattle.format.specs.Values.{Value, level, list, Slot, named, unnamed, putNamed, putUnnamed, put, nameOf, slotsOf, collapse, elements, spread, valueFrom, valueIf, leaf}
+use Rattle.format.specs.Values.{Value, level, list, Slot, named, unnamed, putNamed, putUnnamed, put, nameOf, slotsOf, collapse, elements, spread}
+use Rattle.format.specs.Values.{valueFrom, valueIf, leaf}
 use Rattle.format.specs.declared.Entry.{Entry}
 use Rattle.lookup.specs.Table.{firsts, Ordered, Run, found}
 use Rattle.lookup.specs.Values.{onlyUnnamed, unnamedIn, elementsFrom, elementsOf, Element, unnamedChild, kids, headOf, listAt}
@@ -245,7 +246,8 @@ elements-some (suc d) s e n p o h =
     go ih [] o h = o refl
     go ih (j ∷ js) o h =
         append-some (firstOnes (listAt s e n j) (elementsFrom d s (firsts n e) (suc j)) j) js
-        (first (listAt s e n j) (elementsFrom d s (firsts n e) (suc j)) j (λ b. ih j (and-right (eqb (e j .kind) 11) (onlyUnnamed (slotsOf s (firsts n e) (suc j))) b))) h
+        (first (listAt s e n j) (elementsFrom d s (firsts n e) (suc j)) j
+        (λ b. ih j (and-right (eqb (e j .kind) 11) (onlyUnnamed (slotsOf s (firsts n e) (suc j))) b))) h
 
 -- ---- the first element
 
@@ -280,7 +282,8 @@ module _ (s : List ℕ) (e : ℕ → Entry) (n p : ℕ) where
   first-deep zero j l b h = absurd (omega arith)
   first-deep (suc d) j l b h =
       let k = head-kids (kids e p 0 n) j h in
-      rw (elements-deep, k .1, b, sub-one, add-one) (head-append _ (k .0) (elements-some d s e n (suc j) (and-right (eqb (e j .kind) 11) (onlyUnnamed (slotsOf s (firsts n e) (suc j))) b)))
+      rw (elements-deep, k .1, b, sub-one, add-one)
+      (head-append _ (k .0) (elements-some d s e n (suc j) (and-right (eqb (e j .kind) 11) (onlyUnnamed (slotsOf s (firsts n e) (suc j))) b)))
 
 -- ---- from an element to the next
 
@@ -484,7 +487,9 @@ elements-short (suc d) s e n p = rw elements-deep (go (kids e p 0 n) (kids-short
     go [] h k = omega arith
     go (j ∷ js) h k =
         let a = one (listAt s e n j) (elementsFrom d s (firsts n e) (suc j)) j (omega arith) (k j) in
-        let x : (suc d + 1) * n ≡ (d + 1) * n + n = ap (λ (y : ℕ). y * n) (let z : suc d + 1 ≡ (d + 1) + 1 = omega arith in z) ∙ add-mul (d + 1) 1 n ∙ ap (λ (y : ℕ). (d + 1) * n + y) (one-mul n) in
+        let x : (suc d + 1) * n ≡ (d + 1) * n + n =
+        ap (λ (y : ℕ). y * n) (let z : suc d + 1 ≡ (d + 1) + 1 = omega arith in z) ∙ add-mul (d + 1) 1 n
+        ∙ ap (λ (y : ℕ). (d + 1) * n + y) (one-mul n) in
         rw (length-append (f j) js, x) (omega arith)
 
 -- of these elements n are counted, and `at` is the next
@@ -498,7 +503,8 @@ counted-end l n at h z = let x = get-past l n (is-nothing at _ z (h .next)) in o
 pub counted-less : (l : List ℕ) (n : ℕ) (at : Found) (i : ℕ) → Counted l n at → at ≡ At i → n < length l
 counted-less l n at i h z = get-less l n i (sym (is-at at i _ z (h .next)))
 
-pub counted-more : (l : List ℕ) (n : ℕ) (at to : Found) (i : ℕ) → Counted l n at → at ≡ At i → (getElem? l n ≡ some i → found to ≡ getElem? l (n + 1)) → Counted l (n + 1) to
+pub counted-more : (l : List ℕ) (n : ℕ) (at to : Found) (i : ℕ) → Counted l n at → at ≡ At i → (getElem? l n ≡ some i → found to ≡ getElem? l (n + 1))
+    → Counted l (n + 1) to
 counted-more l n at to i h z k =
     let x = counted-less l n at i h z in
     record { next = k (sym (is-at at i _ z (h .next))); few = omega arith }

@@ -4,7 +4,8 @@ use mathlib.Core.Path.{_≡_, refl, _∙_}
 use mathlib.Core.List.{List, [], _∷_, _++_}
 use native.Mathlib.Omega.{arith}
 use lib.ListN.{length, length-append}
-use Rattle.format.specs.Grammar.Trees.{valueStart, Head, Fixed, bool, i32, u32, i64, u64, f64, pointer, Plain, fixed, text-ended, text-cut, bytes, countAt, kidsFrom, kidsTo, levelTo, Records, counted, quiet, plain, nested}
+use Rattle.format.specs.Grammar.Trees.{valueStart, Head, Fixed, bool, i32, u32, i64, u64, f64, pointer, Plain, fixed, text-ended, text-cut, bytes}
+use Rattle.format.specs.Grammar.Trees.{countAt, kidsFrom, kidsTo, levelTo, Records, counted, quiet, plain, nested}
 use Rattle.format.specs.Trees.{fixedLen, entryOf}
 use Rattle.format.proofs.Trees.ByRules.{entry-is}
 use Rattle.format.specs.declared.Entry.{Entry}
@@ -79,6 +80,7 @@ module _ (d : List ℕ) (base n m : ℕ) (within : base + length d ≤ n) where
             (head-entered parent i e 11 (kidsFrom d i) (kidsTo d i - kidsFrom d i) (v .head) l q
             (record { kind = omega arith; value = omega (arith, v .length-least, v .kids-within); fixed = λ a b c. absurd (c refl) })),
         entered-append n m ks fs
-            (records-entered left′ (suc used) (countAt d i) (suc used) (kidsFrom d i) (kidsTo d i) ks x kr (omega (arith, v .kids-within)) (omega arith) (omega arith))
+            (records-entered left′ (suc used) (countAt d i) (suc used) (kidsFrom d i) (kidsTo d i) ks x kr (omega (arith, v .kids-within))
+            (omega arith) (omega arith))
             (records-entered left parent c (used + suc (length ks)) (levelTo d i) e fs p r l q (omega arith)),
       )

@@ -15,7 +15,8 @@ use Rattle.format.proofs.Values.OneMoreEntry.{step, put-some}
 use Rattle.format.specs.Bytes.{same}
 use Rattle.format.specs.Text.{units, lossy, replacedAfter}
 use Rattle.format.specs.Trees.{mostDepth}
-use Rattle.format.specs.Values.{Value, level, list, Slot, named, unnamed, putNamed, putUnnamed, put, nameOf, slotsOf, collapse, elements, valueAt, valueFrom, valueIf, leaf, asLevel}
+use Rattle.format.specs.Values.{Value, level, list, Slot, named, unnamed, putNamed, putUnnamed, put, nameOf, slotsOf, collapse, elements, valueAt}
+use Rattle.format.specs.Values.{valueFrom, valueIf, leaf, asLevel}
 use Rattle.format.specs.declared.Entry.{Entry}
 use Rattle.lookup.specs.Table.{firsts, Ordered, Run}
 use Rattle.lookup.specs.Values.{onlyUnnamed, unnamedIn, elementsFrom, meaning}
@@ -80,7 +81,8 @@ has-step s p k e r h = go (eqb (e .parent) p) (nameOf s e)
 has-later : (s : List ℕ) (p : ℕ) (e : ℕ → Entry) (i n : ℕ) → hasNamed (slotsOf s (firsts i e) p) ≡ true → hasNamed (slotsOf s (firsts (i + n) e) p) ≡ true
 has-later s p e i zero h = rw (let z : i + 0 ≡ i = omega arith in z) h
 has-later s p e i (suc n) h =
-    rw (let z : i + suc n ≡ suc (i + n) = omega arith in z) (ap hasNamed (slots-more s p (i + n) e) ∙ has-step s p (i + n) (e (i + n)) _ (has-later s p e i n h))
+    rw (let z : i + suc n ≡ suc (i + n) = omega arith in z)
+    (ap hasNamed (slots-more s p (i + n) e) ∙ has-step s p (i + n) (e (i + n)) _ (has-later s p e i n h))
 
 only-named : (r : List Slot) → hasNamed r ≡ true → onlyUnnamed r ≡ false
 unfolding hasNamed onlyUnnamed
@@ -93,7 +95,8 @@ only-named (unnamed is ∷ x ∷ r) h = refl
 pub not-list : (s : List ℕ) (p : ℕ) (e : ℕ → Entry) (i n : ℕ) → i < n → e i .parent ≡ p → (e i .units ≡ 0 → ⊥)
     → onlyUnnamed (slotsOf s (firsts n e) p) ≡ false
 not-list s p e i n l h z =
-    only-named _ (rw (let y : n ≡ (i + 1) + (n - (i + 1)) = omega arith in y) (has-later s p e (i + 1) (n - (i + 1)) (ap hasNamed (slots-named s p e i h z) ∙ has-put _ i _)))
+    only-named _ (rw (let y : n ≡ (i + 1) + (n - (i + 1)) = omega arith in y)
+    (has-later s p e (i + 1) (n - (i + 1)) (ap hasNamed (slots-named s p e i h z) ∙ has-put _ i _)))
 
 -- ---- no names so far
 

@@ -179,7 +179,8 @@ keys-leads : (s : List ℕ) (e : ℕ → Entry) (p n : ℕ) → keys (slotsOf s 
 unfolding leadsIn leads
 keys-leads s e p zero = ap keys (slots-start s p e) ∙ ap (namesOf s e) (sym (between-zero _))
 keys-leads s e p (suc n) =
-    ap keys (slots-more s p n e) ∙ go (eqb (e n .parent) p) ∙ ap (λ (l : List (List ℕ)). l ++ namesOf s e (cond (leads s e p n) (n ∷ []) [])) (keys-leads s e p n)
+    ap keys (slots-more s p n e) ∙ go (eqb (e n .parent) p)
+    ∙ ap (λ (l : List (List ℕ)). l ++ namesOf s e (cond (leads s e p n) (n ∷ []) [])) (keys-leads s e p n)
     ∙ sym (names-append s e (leadsIn s e p 0 n) (cond (leads s e p n) (n ∷ []) [])) ∙ ap (namesOf s e) (sym (between-last (leads s e p) n))
   where
     r : List Slot

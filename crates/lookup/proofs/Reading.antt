@@ -81,7 +81,9 @@ tree-ready s r es ys small within few t =
     data-length = rw (length-take, length-drop) (omega arith)
 
     f : AllEntered (length s) (length es) es
-    f = records-entered (dataIn s r) (r .start) (length s) (length es) data-length _ 0 1 0 0 _ es (t .place-after) (t .record-at-0) (omega arith) (omega arith) (omega arith)
+    f =
+        records-entered (dataIn s r) (r .start) (length s) (length es) data-length _ 0 1 0 0 _ es (t .place-after) (t .record-at-0) (omega arith)
+        (omega arith) (omega arith)
 
     back : entriesIn (tableBytes es ++ ys) (length es) ≡ es
     back = entries-back es ys (entered-fit (length s) (length es) small (omega arith) es f)

@@ -159,7 +159,8 @@ module _ (s : List ℕ) (es : List Entry) (f : Field) where
   unfolding fieldMeaning meaning childLevels sizeOf
   other-of v h k = rw h (go v k)
     where
-      go : (v : ClxValue) → OneOf (0 ∷ 1 ∷ 2 ∷ 3 ∷ 4 ∷ 5 ∷ []) (tagOf the-type v) → (childLevels s es (some (meaning s es v)) ≡ []) × (sizeOf s es (some (meaning s es v)) ≡ 0)
+      go : (v : ClxValue) → OneOf (0 ∷ 1 ∷ 2 ∷ 3 ∷ 4 ∷ 5 ∷ []) (tagOf the-type v)
+          → (childLevels s es (some (meaning s es v)) ≡ []) × (sizeOf s es (some (meaning s es v)) ≡ 0)
       go (clx.Flag b) k = (refl, refl)
       go (clx.Whole n) k = (refl, refl)
       go (clx.Below n) k = (refl, refl)

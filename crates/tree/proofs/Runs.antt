@@ -16,7 +16,8 @@ use Rattle.format.proofs.Ground.Bytes.{sets-append}
 use Rattle.format.proofs.Trees.Tables.{table-append, length-table, within-whole, within-full}
 use Rattle.format.proofs.Trees.ByRules.{then-more, value-some}
 use Rattle.format.specs.Refusals as why
-use Rattle.format.specs.Trees.{Stop, at, fault, Read, ends, follow, then, childrenOr9, levelEnd, value, entryOf, records, childrenAt, roomIn, within, entryBytes, tableBytes}
+use Rattle.format.specs.Trees.{Stop, at, fault, Read, ends, follow, then, childrenOr9, levelEnd, value, entryOf, records, childrenAt, roomIn, within}
+use Rattle.format.specs.Trees.{entryBytes, tableBytes}
 use Rattle.format.specs.declared.Entry.{Entry}
 use Rattle.cursor.specs.Words.{Within}
 use Rattle.cursor.specs.Steps.{Faults, Headed, fromHead, HeadRead, LeafRead, LevelRead}
@@ -79,7 +80,8 @@ how : {room : ℕ} {o : Read} {x : ℕ} → Stops room o x → How room o x
 unfolding within
 how {room} {o} {x} s = go (leb (length (o .entries)) room) refl (s .number)
   where
-    go : (b : Bool) → leb (length (o .entries)) room ≡ b → cond b o (record { entries = take room (o .entries); stop = fault why.table }) .stop ≡ fault x → How room o x
+    go : (b : Bool) → leb (length (o .entries)) room ≡ b
+        → cond b o (record { entries = take room (o .entries); stop = fault why.table }) .stop ≡ fault x → How room o x
     go true q e = whole (leb-true _ _ q) e
     go false q e = full (leb-false _ _ q) (cc)
 
@@ -122,7 +124,9 @@ module _ (d : List ℕ) (base : ℕ) (p : Spot) where
   rest-none c u (suc k) h = absurd (omega arith)
 
   rest-head : (c : Cursor) (u k : ℕ) {r : Head} → 0 < k → HeadRead d c r
-      → restOf d base p c u k ≡ fromHead (λ n v. valueAt d base n v (spotAt p u)) (λ n q. records d base (childrenAt (p .levels) d base) (p .parent) (k - 1) (u + n) q (c .end)) c r
+      → restOf d base p c u k
+      ≡ fromHead (λ n v. valueAt d base n v (spotAt p u))
+      (λ n q. records d base (childrenAt (p .levels) d base) (p .parent) (k - 1) (u + n) q (c .end)) c r
   rest-head c u zero h w = absurd (omega arith)
   rest-head c u (suc k) h w = rw sub-one (w .says base (childrenAt (p .levels) d base) (p .parent) k u)
 
@@ -141,7 +145,8 @@ pub begin : (d : List ℕ) (base : ℕ) (p : Spot) (t : List ℕ) (c : Cursor) (
 begin d base p t c u k w h =
     record { acc = []; rest = refl; count = sym (add-zero u); room = h; table = sym (put-nil t u); within = w; last = refl; fit = tt }
 
-module _ {d : List ℕ} {base : ℕ} {p : Spot} {t₀ : List ℕ} {c₀ : Cursor} {u₀ k₀ : ℕ} {t : List ℕ} {c : Cursor} {u k : ℕ} (T : Turned d base p t₀ c₀ u₀ k₀ t c u k) where
+module _ {d : List ℕ} {base : ℕ} {p : Spot} {t₀ : List ℕ} {c₀ : Cursor} {u₀ k₀ : ℕ} {t : List ℕ} {c : Cursor} {u k : ℕ}
+    (T : Turned d base p t₀ c₀ u₀ k₀ t c u k) where
   pub kept-length : length t ≡ length t₀
   kept-length = ap length (T .table) ∙ length-put t₀ u₀ (T .acc)
 
@@ -150,7 +155,15 @@ module _ {d : List ℕ} {base : ℕ} {p : Spot} {t₀ : List ℕ} {c₀ : Cursor
   over e =
       let q : restOf d base p c₀ u₀ k₀ ≡ record { entries = T .acc; stop = at (c .at) } = T .rest ∙ rw (e, append-nil) in
       rw q
-      (record { stop = refl; used = T .count; room = T .room; table = T .table; fit = T .fit; order = omega (arith, T .within .order, T .last); last = T .last })
+      (record {
+        stop = refl;
+        used = T .count;
+        room = T .room;
+        table = T .table;
+        fit = T .fit;
+        order = omega (arith, T .within .order, T .last);
+        last = T .last;
+      })
 
   -- what is left ends with a fault
   ended : {x : ℕ} → Stops (roomIn (length t₀) - u) (restOf d base p c u k) x → Stops (roomIn (length t₀) - u₀) (restOf d base p c₀ u₀ k₀) x
@@ -274,7 +287,8 @@ module _ {d : List ℕ} {base : ℕ} {n : Name} {v : Cursor} {p : Spot} {t : Lis
     level-then = level-is kind level ∙ go (p .levels) some
       where
         go : (l : ℕ) → (l ≡ 0 → ⊥) → childrenOr9 (childrenAt l d base (p .used)) k (c .at) (c .end) (entryOf d base (p .parent) (n .start)) (v .end)
-            ≡ before (own ∷ []) (then (records d base (childrenAt (l - 1) d base) (p .used + 1) k (p .used + 1) (c .at) (c .end)) λ m q. ends (levelEnd k (c .end) (v .end)))
+            ≡ before (own ∷ []) (then (records d base (childrenAt (l - 1) d base) (p .used + 1) k (p .used + 1) (c .at) (c .end))
+            λ m q. ends (levelEnd k (c .end) (v .end)))
         go zero z = absurd (z refl)
         go (suc l) z = simp (sub-one, add-one)
 
@@ -306,7 +320,9 @@ module _ {d : List ℕ} {base : ℕ} {n : Name} {v : Cursor} {p : Spot} {t : Lis
             stop = refl;
             used = omega (arith, W .used, s .good .2);
             room = omega (arith, W .room, s .good .2, room-is);
-            table = W .table ∙ ap (λ (x : List ℕ). putAll x (p .used + 1) (kids .entries)) (put-is (c .at) (c .end - c .at) put) ∙ sym (put-append t (p .used) (own ∷ []) (kids .entries));
+            table =
+                W .table ∙ ap (λ (x : List ℕ). putAll x (p .used + 1) (kids .entries)) (put-is (c .at) (c .end - c .at) put)
+                ∙ sym (put-append t (p .used) (own ∷ []) (kids .entries));
             fit = (rw entry-is at f, W .fit);
             order = omega (arith, s .good .0, g .last);
             last = s .good .1 ∙ g .last;

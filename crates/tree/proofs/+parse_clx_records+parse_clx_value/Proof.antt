@@ -13,7 +13,8 @@ use Rattle.tree.specs.Table.{Fit}
 use Rattle.cursor.specs.declared.record.Head.the-variants.{Named}
 use Rattle.cursor.specs.declared.record.Leaf.the-variants.{Value}
 use Rattle.cursor.specs.declared.record.Level.the-variants.{Inner}
-use Rattle.tree.proofs.Runs.{Turned, begin, kept-length, ends-none, ends-here, ends-bad, ends-full, fails, turn, Placed, leaf-stops, leaf-went, level-unfit, level-deep, level-fault, level-went}
+use Rattle.tree.proofs.Runs.{Turned, begin, kept-length, ends-none, ends-here, ends-bad, ends-full, fails, turn, Placed, leaf-stops, leaf-went}
+use Rattle.tree.proofs.Runs.{level-unfit, level-deep, level-fault, level-went}
 use borrow.Fn.Kinds.{In}
 use borrow.Fn.PlainCycle.{Measures, is, falls, and}
 use Rattle.tree.proofs.parse_clx_records.Reads as parse-clx-records
@@ -97,113 +98,143 @@ parse-clx-records-μ-loop d base table₀ count p at₀ used₀ left₀ table at
 
 -- the head of the record that is read in a turn
 head-at : (t : ℕ) (c : parse-clx-records-lts.After-n (rr t) (parse-clx-records-at t) parse-clx-records.Post parse-clx-records-Inv-loop parse-clx-records-μ-loop)
-    → HeadRead (now (c .before .before .before .before .before .before .before .args .d)) (c .before .before .before .before .loop .at) (Named (c .n .given .0 .0) (c .n .given .0 .1 .0))
+    → HeadRead (now (c .before .before .before .before .before .before .before .args .d)) (c .before .before .before .before .loop .at)
+    (Named (c .n .given .0 .0) (c .n .given .0 .1 .0))
 head-at t c = rw (c .n .given .1) at (c .before .before .read-head .ensures)
 
-parse-clx-records-loop-holds : (t : ℕ) → parse-clx-records-lts.Need-loop-holds (rr t) (parse-clx-records-at t) parse-clx-records.Post parse-clx-records-Inv-loop parse-clx-records-μ-loop
+parse-clx-records-loop-holds : (t : ℕ)
+    → parse-clx-records-lts.Need-loop-holds (rr t) (parse-clx-records-at t) parse-clx-records.Post parse-clx-records-Inv-loop parse-clx-records-μ-loop
 parse-clx-records-loop-holds t c = begin _ _ _ _ _ _ _ (c .before .before .pre .1 .0) (c .before .before .pre .1 .2)
 
-parse-clx-records-read-head-requires : (t : ℕ) → parse-clx-records-lts.Need-read-head-requires (rr t) (parse-clx-records-at t) parse-clx-records.Post parse-clx-records-Inv-loop parse-clx-records-μ-loop
+parse-clx-records-read-head-requires : (t : ℕ)
+    → parse-clx-records-lts.Need-read-head-requires (rr t) (parse-clx-records-at t) parse-clx-records.Post parse-clx-records-Inv-loop parse-clx-records-μ-loop
 parse-clx-records-read-head-requires t c κs = search needs
 
-parse-clx-records-enum-told : (t : ℕ) → parse-clx-records-lts.Need-enum-told (rr t) (parse-clx-records-at t) parse-clx-records.Post parse-clx-records-Inv-loop parse-clx-records-μ-loop
+parse-clx-records-enum-told : (t : ℕ)
+    → parse-clx-records-lts.Need-enum-told (rr t) (parse-clx-records-at t) parse-clx-records.Post parse-clx-records-Inv-loop parse-clx-records-μ-loop
 parse-clx-records-enum-told t c = search needs
 
-parse-clx-records-same-length : (t : ℕ) → parse-clx-records-lts.Need-same-length (rr t) (parse-clx-records-at t) parse-clx-records.Post parse-clx-records-Inv-loop parse-clx-records-μ-loop
+parse-clx-records-same-length : (t : ℕ)
+    → parse-clx-records-lts.Need-same-length (rr t) (parse-clx-records-at t) parse-clx-records.Post parse-clx-records-Inv-loop parse-clx-records-μ-loop
 parse-clx-records-same-length t c = kept-length (c .before .before .before .before .loop .inv)
 
-parse-clx-records-returns : (t : ℕ) → parse-clx-records-lts.Need-returns (rr t) (parse-clx-records-at t) parse-clx-records.Post parse-clx-records-Inv-loop parse-clx-records-μ-loop
+parse-clx-records-returns : (t : ℕ)
+    → parse-clx-records-lts.Need-returns (rr t) (parse-clx-records-at t) parse-clx-records.Post parse-clx-records-Inv-loop parse-clx-records-μ-loop
 parse-clx-records-returns t c =
     let h = c .before .before in
     ends-here (h .before .before .loop .inv) (h .before .loop-test .taken) (rw (c .enum-told .given .1) at (h .read-head .ensures))
 
-parse-clx-records-enum-known-f : (t : ℕ) → parse-clx-records-lts.Need-enum-known-f (rr t) (parse-clx-records-at t) parse-clx-records.Post parse-clx-records-Inv-loop parse-clx-records-μ-loop
+parse-clx-records-enum-known-f : (t : ℕ)
+    → parse-clx-records-lts.Need-enum-known-f (rr t) (parse-clx-records-at t) parse-clx-records.Post parse-clx-records-Inv-loop parse-clx-records-μ-loop
 parse-clx-records-enum-known-f t c = search needs
 
-parse-clx-records-same-length-2 : (t : ℕ) → parse-clx-records-lts.Need-same-length-2 (rr t) (parse-clx-records-at t) parse-clx-records.Post parse-clx-records-Inv-loop parse-clx-records-μ-loop
+parse-clx-records-same-length-2 : (t : ℕ)
+    → parse-clx-records-lts.Need-same-length-2 (rr t) (parse-clx-records-at t) parse-clx-records.Post parse-clx-records-Inv-loop parse-clx-records-μ-loop
 parse-clx-records-same-length-2 t c = kept-length (c .before .before .before .before .before .loop .inv)
 
-parse-clx-records-returns-2 : (t : ℕ) → parse-clx-records-lts.Need-returns-2 (rr t) (parse-clx-records-at t) parse-clx-records.Post parse-clx-records-Inv-loop parse-clx-records-μ-loop
+parse-clx-records-returns-2 : (t : ℕ)
+    → parse-clx-records-lts.Need-returns-2 (rr t) (parse-clx-records-at t) parse-clx-records.Post parse-clx-records-Inv-loop parse-clx-records-μ-loop
 parse-clx-records-returns-2 t c =
     let h = c .before .before .before in
     ends-bad (h .before .before .loop .inv) (h .before .loop-test .taken) (rw (c .before .f .given .1) at (h .read-head .ensures))
 
-parse-clx-records-enum-known-n : (t : ℕ) → parse-clx-records-lts.Need-enum-known-n (rr t) (parse-clx-records-at t) parse-clx-records.Post parse-clx-records-Inv-loop parse-clx-records-μ-loop
+parse-clx-records-enum-known-n : (t : ℕ)
+    → parse-clx-records-lts.Need-enum-known-n (rr t) (parse-clx-records-at t) parse-clx-records.Post parse-clx-records-Inv-loop parse-clx-records-μ-loop
 parse-clx-records-enum-known-n t c = search needs
 
-parse-clx-records-same-length-3 : (t : ℕ) → parse-clx-records-lts.Need-same-length-3 (rr t) (parse-clx-records-at t) parse-clx-records.Post parse-clx-records-Inv-loop parse-clx-records-μ-loop
+parse-clx-records-same-length-3 : (t : ℕ)
+    → parse-clx-records-lts.Need-same-length-3 (rr t) (parse-clx-records-at t) parse-clx-records.Post parse-clx-records-Inv-loop parse-clx-records-μ-loop
 parse-clx-records-same-length-3 t c = kept-length (c .before .before .before .before .before .before .loop .inv)
 
-parse-clx-records-returns-3 : (t : ℕ) → parse-clx-records-lts.Need-returns-3 (rr t) (parse-clx-records-at t) parse-clx-records.Post parse-clx-records-Inv-loop parse-clx-records-μ-loop
+parse-clx-records-returns-3 : (t : ℕ)
+    → parse-clx-records-lts.Need-returns-3 (rr t) (parse-clx-records-at t) parse-clx-records.Post parse-clx-records-Inv-loop parse-clx-records-μ-loop
 parse-clx-records-returns-3 t c =
     let n = c .before .before in
     let l = n .before .before .before in
     ends-full (l .before .loop .inv) (l .loop-test .taken) (head-at t n) (c .if1 .taken)
 
-parse-clx-records-parse-clx-value-requires : (t : ℕ) → parse-clx-records-lts.Need-parse-clx-value-requires (rr t) (parse-clx-records-at t) parse-clx-records.Post parse-clx-records-Inv-loop parse-clx-records-μ-loop
+parse-clx-records-parse-clx-value-requires : (t : ℕ)
+    → parse-clx-records-lts.Need-parse-clx-value-requires (rr t) (parse-clx-records-at t) parse-clx-records.Post parse-clx-records-Inv-loop
+    parse-clx-records-μ-loop
 parse-clx-records-parse-clx-value-requires t c κs =
     let n = c .before .before .before in
     let s = n .before .before .before .before .before .before .before in
     (omega (arith, s .pre .0), (head-at t n .good .0, s .pre .1 .1, c .before .if1 .left))
 
-parse-clx-records-enum-known-f-2 : (t : ℕ) → parse-clx-records-lts.Need-enum-known-f-2 (rr t) (parse-clx-records-at t) parse-clx-records.Post parse-clx-records-Inv-loop parse-clx-records-μ-loop
+parse-clx-records-enum-known-f-2 : (t : ℕ)
+    → parse-clx-records-lts.Need-enum-known-f-2 (rr t) (parse-clx-records-at t) parse-clx-records.Post parse-clx-records-Inv-loop parse-clx-records-μ-loop
 parse-clx-records-enum-known-f-2 t c = search needs
 
-parse-clx-records-same-length-4 : (t : ℕ) → parse-clx-records-lts.Need-same-length-4 (rr t) (parse-clx-records-at t) parse-clx-records.Post parse-clx-records-Inv-loop parse-clx-records-μ-loop
+parse-clx-records-same-length-4 : (t : ℕ)
+    → parse-clx-records-lts.Need-same-length-4 (rr t) (parse-clx-records-at t) parse-clx-records.Post parse-clx-records-Inv-loop parse-clx-records-μ-loop
 parse-clx-records-same-length-4 t c =
     let v = c .before .before .before .before .before in
     v .parse-clx-value .kept .1 .1 .0 ∙ kept-length (v .before .before .before .before .before .before .before .before .loop .inv)
 
-parse-clx-records-returns-4 : (t : ℕ) → parse-clx-records-lts.Need-returns-4 (rr t) (parse-clx-records-at t) parse-clx-records.Post parse-clx-records-Inv-loop parse-clx-records-μ-loop
+parse-clx-records-returns-4 : (t : ℕ)
+    → parse-clx-records-lts.Need-returns-4 (rr t) (parse-clx-records-at t) parse-clx-records.Post parse-clx-records-Inv-loop parse-clx-records-μ-loop
 parse-clx-records-returns-4 t c =
     let v = c .before .before .before .before .before in
     let n = v .before .before .before .before in
     let l = n .before .before .before in
     fails (l .before .loop .inv) (l .loop-test .taken) (head-at t n) (rw (c .before .f2 .given .1) at (v .parse-clx-value .ensures))
 
-parse-clx-records-enum-known-next : (t : ℕ) → parse-clx-records-lts.Need-enum-known-next (rr t) (parse-clx-records-at t) parse-clx-records.Post parse-clx-records-Inv-loop parse-clx-records-μ-loop
+parse-clx-records-enum-known-next : (t : ℕ)
+    → parse-clx-records-lts.Need-enum-known-next (rr t) (parse-clx-records-at t) parse-clx-records.Post parse-clx-records-Inv-loop parse-clx-records-μ-loop
 parse-clx-records-enum-known-next t c = search needs
 
-parse-clx-records-sub-left : (t : ℕ) → parse-clx-records-lts.Need-sub-left (rr t) (parse-clx-records-at t) parse-clx-records.Post parse-clx-records-Inv-loop parse-clx-records-μ-loop
+parse-clx-records-sub-left : (t : ℕ)
+    → parse-clx-records-lts.Need-sub-left (rr t) (parse-clx-records-at t) parse-clx-records.Post parse-clx-records-Inv-loop parse-clx-records-μ-loop
 parse-clx-records-sub-left t c = search needs
 
-parse-clx-records-loop-less : (t : ℕ) → parse-clx-records-lts.Need-loop-less (rr t) (parse-clx-records-at t) parse-clx-records.Post parse-clx-records-Inv-loop parse-clx-records-μ-loop
+parse-clx-records-loop-less : (t : ℕ)
+    → parse-clx-records-lts.Need-loop-less (rr t) (parse-clx-records-at t) parse-clx-records.Post parse-clx-records-Inv-loop parse-clx-records-μ-loop
 parse-clx-records-loop-less t c = search needs
 
-parse-clx-records-loop-again : (t : ℕ) → parse-clx-records-lts.Need-loop-again (rr t) (parse-clx-records-at t) parse-clx-records.Post parse-clx-records-Inv-loop parse-clx-records-μ-loop
+parse-clx-records-loop-again : (t : ℕ)
+    → parse-clx-records-lts.Need-loop-again (rr t) (parse-clx-records-at t) parse-clx-records.Post parse-clx-records-Inv-loop parse-clx-records-μ-loop
 parse-clx-records-loop-again t c =
     let v = c .before .before .before .before .before in
     let n = v .before .before .before .before in
     let l = n .before .before .before in
     turn (l .before .loop .inv) (l .loop-test .taken) (head-at t n) (rw (c .before .next .given .1) at (v .parse-clx-value .ensures)) (head-at t n .good .1)
 
-parse-clx-records-same-length-5 : (t : ℕ) → parse-clx-records-lts.Need-same-length-5 (rr t) (parse-clx-records-at t) parse-clx-records.Post parse-clx-records-Inv-loop parse-clx-records-μ-loop
+parse-clx-records-same-length-5 : (t : ℕ)
+    → parse-clx-records-lts.Need-same-length-5 (rr t) (parse-clx-records-at t) parse-clx-records.Post parse-clx-records-Inv-loop parse-clx-records-μ-loop
 parse-clx-records-same-length-5 t c = kept-length (c .before .loop .inv)
 
-parse-clx-records-returns-5 : (t : ℕ) → parse-clx-records-lts.Need-returns-5 (rr t) (parse-clx-records-at t) parse-clx-records.Post parse-clx-records-Inv-loop parse-clx-records-μ-loop
+parse-clx-records-returns-5 : (t : ℕ)
+    → parse-clx-records-lts.Need-returns-5 (rr t) (parse-clx-records-at t) parse-clx-records.Post parse-clx-records-Inv-loop parse-clx-records-μ-loop
 parse-clx-records-returns-5 t c = ends-none (c .before .loop .inv) (c .loop-test .left)
 
 -- what the value stands on
-placed : (t : ℕ) (c : parse-clx-value-lts.Start (rv t) (parse-clx-value-at t) parse-clx-value.Post) → Placed (now (c .args .d)) (c .args .base) (c .args .n) (c .args .c) (c .args .p) (now (c .args .table))
+placed : (t : ℕ) (c : parse-clx-value-lts.Start (rv t) (parse-clx-value-at t) parse-clx-value.Post)
+    → Placed (now (c .args .d)) (c .args .base) (c .args .n) (c .args .c) (c .args .p) (now (c .args .table))
 placed t c = record { head = c .pre .1 .0; left = c .pre .1 .2 }
 
 -- the level's header
 level-at : (t : ℕ) (c : parse-clx-value-lts.After-count (rv t) (parse-clx-value-at t) parse-clx-value.Post)
-    → LevelRead (now (c .before .before .before .before .before .before .args .d)) (c .before .before .before .before .before .before .args .n .start) (c .before .before .before .before .before .before .args .c) (Inner (c .count .given .0 .0) (c .count .given .0 .1 .0) (c .count .given .0 .1 .1 .0))
+    → let a = c .before .before .before .before .before .before .args in
+    LevelRead (now (a .d)) (a .n .start) (a .c) (Inner (c .count .given .0 .0) (c .count .given .0 .1 .0) (c .count .given .0 .1 .1 .0))
 level-at t c = rw (c .count .given .1) at (c .before .before .read-level .ensures)
 
 -- the level's entry is stored
 stored : (t : ℕ) (c : parse-clx-value-lts.After-put-entry (rv t) (parse-clx-value-at t) parse-clx-value.Post)
-    → (c .put-entry .last .0 ≡ sets (now (c .before .before .before .before .before .before .before .before .before .before .before .before .args .table)) (48 * c .before .before .before .before .before .before .before .before .before .before .before .before .args .p .used) (entryBytes (entryFor (c .before .before .before .before .before .before .before .before .before .before .before .before .args .base) (c .before .before .before .before .before .before .before .before .before .before .before .before .args .p .parent) (c .before .before .before .before .before .before .before .before .before .before .before .before .args .n) (c .before .before .before .before .before .before .count .given .0 .1 .0 .at) (c .before .before .before .before .before .before .count .given .0 .1 .0 .end - c .before .before .before .before .before .before .count .given .0 .1 .0 .at))))
-    × Fit (entryFor (c .before .before .before .before .before .before .before .before .before .before .before .before .args .base) (c .before .before .before .before .before .before .before .before .before .before .before .before .args .p .parent) (c .before .before .before .before .before .before .before .before .before .before .before .before .args .n) (c .before .before .before .before .before .before .count .given .0 .1 .0 .at) (c .before .before .before .before .before .before .count .given .0 .1 .0 .end - c .before .before .before .before .before .before .count .given .0 .1 .0 .at))
+    → let a = c .before .before .before .before .before .before .before .before .before .before .before .before .args in
+    let v = c .before .before .before .before .before .before .count .given .0 .1 .0 in
+    let e = entryFor (a .base) (a .p .parent) (a .n) (v .at) (v .end - v .at) in
+    (c .put-entry .last .0 ≡ sets (now (a .table)) (48 * a .p .used) (entryBytes e)) × Fit e
 stored t c = rw (c .before .entry-of .ensures) at (c .put-entry .ensures)
 
 -- the value that is no level
 leaf-at : (t : ℕ) (c : parse-clx-value-lts.After-at (rv t) (parse-clx-value-at t) parse-clx-value.Post)
-    → LeafRead (now (c .before .before .before .before .before .before .args .d)) (c .before .before .before .before .before .before .args .c .end)
-    (value (now (c .before .before .before .before .before .before .args .d)) (childrenAt (c .before .before .before .before .before .before .args .p .levels) (now (c .before .before .before .before .before .before .args .d)) (c .before .before .before .before .before .before .args .base) (c .before .before .before .before .before .before .args .p .used)) (c .before .before .before .before .before .before .args .n .kind) (c .before .before .before .before .before .before .args .n .start) (c .before .before .before .before .before .before .args .c .at) (c .before .before .before .before .before .before .args .c .end))
+    → let a = c .before .before .before .before .before .before .args in
+    LeafRead (now (a .d)) (a .c .end)
+    (value (now (a .d)) (childrenAt (a .p .levels) (now (a .d)) (a .base) (a .p .used)) (a .n .kind) (a .n .start) (a .c .at) (a .c .end))
     (Value (c .at .given .0 .0) (c .at .given .0 .1 .0) (c .at .given .0 .1 .1 .0))
-leaf-at t c = rw (c .at .given .1) at (c .before .before .read-leaf .ensures (childrenAt (c .before .before .before .before .before .before .args .p .levels) (now (c .before .before .before .before .before .before .args .d)) (c .before .before .before .before .before .before .args .base) (c .before .before .before .before .before .before .args .p .used)) (c .before .before .before .before .before .before .args .n .start))
+leaf-at t c =
+    let a = c .before .before .before .before .before .before .args in
+    rw (c .at .given .1) at (c .before .before .read-leaf .ensures (childrenAt (a .p .levels) (now (a .d)) (a .base) (a .p .used)) (a .n .start))
 
 parse-clx-value-read-level-requires : (t : ℕ) → parse-clx-value-lts.Need-read-level-requires (rv t) (parse-clx-value-at t) parse-clx-value.Post
 parse-clx-value-read-level-requires t c κs = search needs
@@ -226,8 +257,10 @@ parse-clx-value-entry-of-requires : (t : ℕ) → parse-clx-value-lts.Need-entry
 parse-clx-value-entry-of-requires t c κs =
     let n = c .before .before .before .before in
     let g = level-at t n .good in
-    let h = placed t (n .before .before .before .before .before .before) .head in
-    (omega (arith, h .before, h .within, n .before .before .before .before .before .before .pre .1), omega (arith, g .kids, n .before .before .before .before .before .before .pre .1))
+    let h = placed t (n .before .before .before .before .before .before) .head in (
+      omega (arith, h .before, h .within, n .before .before .before .before .before .before .pre .1),
+      omega (arith, g .kids, n .before .before .before .before .before .before .pre .1),
+    )
 
 parse-clx-value-put-entry-requires : (t : ℕ) → parse-clx-value-lts.Need-put-entry-requires (rv t) (parse-clx-value-at t) parse-clx-value.Post
 parse-clx-value-put-entry-requires t c κs = search needs
@@ -295,7 +328,8 @@ parse-clx-value-returns-3 t c =
     let r = c .before .before .before .before .before in
     let e = r .before .before .before .before in
     let n = e .before .before .before .before .before .before in
-    level-fault (placed t (n .before .before .before .before .before .before)) (n .before .before .before .if1 .taken) (level-at t n) (e .before .before .before .before .if2 .left) (stored t e .0) (rw (c .before .f2 .given .1) at (r .parse-clx-records .ensures))
+    level-fault (placed t (n .before .before .before .before .before .before)) (n .before .before .before .if1 .taken) (level-at t n)
+    (e .before .before .before .before .if2 .left) (stored t e .0) (rw (c .before .f2 .given .1) at (r .parse-clx-records .ensures))
 
 parse-clx-value-same-length-2 : (t : ℕ) → parse-clx-value-lts.Need-same-length-2 (rv t) (parse-clx-value-at t) parse-clx-value.Post
 parse-clx-value-same-length-2 t c = search needs
@@ -306,14 +340,17 @@ parse-clx-value-returns-4 t c =
     let r = u .before .before .before .before in
     let e = r .before .before .before .before in
     let n = e .before .before .before .before .before .before in
-    level-went (placed t (n .before .before .before .before .before .before)) (n .before .before .before .if1 .taken) (level-at t n) (e .before .before .before .before .if2 .left) (stored t e .0) (rw (u .u .given .1) at (r .parse-clx-records .ensures)) (stored t e .1) _ (c .end-level .ensures)
+    level-went (placed t (n .before .before .before .before .before .before)) (n .before .before .before .if1 .taken) (level-at t n)
+    (e .before .before .before .before .if2 .left) (stored t e .0) (rw (u .u .given .1) at (r .parse-clx-records .ensures)) (stored t e .1) _
+    (c .end-level .ensures)
 
 parse-clx-value-returns-5 : (t : ℕ) → parse-clx-value-lts.Need-returns-5 (rv t) (parse-clx-value-at t) parse-clx-value.Post
 parse-clx-value-returns-5 t c =
     let l = c .before .before .before in
     let s = l .before .before .before .before in
     leaf-stops (placed t s)
-    (rw (c .before .f3 .given .1) at (l .read-leaf .ensures (childrenAt (s .args .p .levels) (now (s .args .d)) (s .args .base) (s .args .p .used)) (s .args .n .start)))
+    (rw (c .before .f3 .given .1) at
+    (l .read-leaf .ensures (childrenAt (s .args .p .levels) (now (s .args .d)) (s .args .base) (s .args .p .used)) (s .args .n .start)))
 
 parse-clx-value-same-length-3 : (t : ℕ) → parse-clx-value-lts.Need-same-length-3 (rv t) (parse-clx-value-at t) parse-clx-value.Post
 parse-clx-value-same-length-3 t c = search needs
@@ -327,7 +364,8 @@ parse-clx-value-returns-6 t c =
 
 pub +parse-clx-records+parse-clx-value-spec : {M : Type 1} → statement M
 +parse-clx-records+parse-clx-value-spec =
-    close μ-parse-clx-records μ-parse-clx-value (λ t. parse-clx-records-lts.spec (rr t) (parse-clx-records-at t) parse-clx-records.Post parse-clx-records-Inv-loop parse-clx-records-μ-loop
+    close μ-parse-clx-records μ-parse-clx-value (λ t. parse-clx-records-lts.spec (rr t) (parse-clx-records-at t) parse-clx-records.Post
+    parse-clx-records-Inv-loop parse-clx-records-μ-loop
     (parse-clx-records-loop-holds t)
     (parse-clx-records-read-head-requires t)
     (parse-clx-records-enum-told t)

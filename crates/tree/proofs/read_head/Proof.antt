@@ -22,7 +22,8 @@ enum-known-kind c = search needs
 
 -- the type is read, and the name's units
 begun : (c : tie.After-kind)
-    → Started (now (c .before .before .before .before .before .args .d)) (c .before .before .before .before .before .args .c) (c .before .before .before .before .before .pre)
+    → Started (now (c .before .before .before .before .before .args .d)) (c .before .before .before .before .before .args .c)
+    (c .before .before .before .before .before .pre)
     (c .kind .given .0 .0) (c .kind .given .0 .1 .0) (c .kind .given .0 .1 .1 .0)
 begun c = head-begun _ _ (c .before .before .before .before .before .pre) (sym (ap startOf (c .kind .given .1)) ∙ c .before .before .record-start .ensures)
 
@@ -30,7 +31,9 @@ judge-head-requires : tie.Need-judge-head-requires
 judge-head-requires c κs = let g = begun (c .before) in (g .name-at, omega (arith, g .name-at, g .two, g .name-end))
 
 returns : tie.Need-returns
-returns c = head-none _ _ (c .before .before .before .before .before .pre) (sym (ap startOf (c .enum-told .given .1)) ∙ c .before .before .record-start .ensures)
+returns c =
+    head-none _ _ (c .before .before .before .before .before .pre)
+    (sym (ap startOf (c .enum-told .given .1)) ∙ c .before .before .record-start .ensures)
 
 returns-2 : tie.Need-returns-2
 returns-2 c =

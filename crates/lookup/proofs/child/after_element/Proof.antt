@@ -22,15 +22,22 @@ enum-known-at c = search needs
 
 add-t9 : tie.Need-add-t9
 add-t9 c =
-    let a = get-less (elementsOf [] (entriesIn (c .before .before .before .before .before .args .table .now) (c .before .before .before .before .before .args .used)) (c .before .before .before .before .before .args .parent)) _ _ (c .before .before .before .before .before .pre .2 []) in
-    let b = elements-short mostDepth [] (entryIn (c .before .before .before .before .before .args .table .now)) (c .before .before .before .before .before .args .used) (c .before .before .before .before .before .args .parent) in
-    omega (arith, a, b, c .before .before .before .before .before .pre .0 .room, c .before .before .before .before .before .good .0 .1)
+    let b = c .before .before .before .before .before in
+    let a = b .args in
+    let l = get-less (elementsOf [] (entriesIn (a .table .now) (a .used)) (a .parent)) _ _ (b .pre .2 []) in
+    let k = elements-short mostDepth [] (entryIn (a .table .now)) (a .used) (a .parent) in
+    omega (arith, l, k, b .pre .0 .room, b .good .0 .1)
 
 returns : tie.Need-returns
-returns c = λ s. behind-end s (entryIn _) _ _ _ (is-nothing _ _ (c .enum-told .given .1) (c .before .before .next-element .ensures .0 s _ (c .before .before .before .before .pre .2 s)))
+returns c =
+    λ s. behind-end s (entryIn _) _ _ _
+    (is-nothing _ _ (c .enum-told .given .1) (c .before .before .next-element .ensures .0 s _ (c .before .before .before .before .pre .2 s)))
 
 returns-2 : tie.Need-returns-2
-returns-2 c = λ s. behind-next s (entryIn _) _ _ _ _ (at-within _ _ _ (c .before .at .given .1) (c .before .before .before .next-element .ensures .1)) (λ t. is-at _ _ _ (c .before .at .given .1) (c .before .before .before .next-element .ensures .0 t _ (c .before .before .before .before .before .pre .2 t)))
+returns-2 c =
+    λ s. behind-next s (entryIn _) _ _ _ _ (at-within _ _ _ (c .before .at .given .1) (c .before .before .before .next-element .ensures .1))
+    (λ t. is-at _ _ _ (c .before .at .given .1)
+    (c .before .before .before .next-element .ensures .0 t _ (c .before .before .before .before .before .pre .2 t)))
 
 pub after-element-spec : {M : Type 1} → statement M
 after-element-spec =

@@ -32,7 +32,9 @@ next-place-requires c κs =
     (c .before .before .before .before .before .before .pre .0, g .0, g .1, g .2)
 
 returns-2 : tie.Need-returns-2 Inv-loop μ-loop
-returns-2 c = next-same _ (entryIn _) _ _ _ (c .next-place .result) (rest-is _ (entryIn _) _ _ _ _ (c .before .before .before .before .loop .inv .1) (c .before .before .walk .given .1)) (c .next-place .ensures)
+returns-2 c =
+    next-same _ (entryIn _) _ _ _ (c .next-place .result)
+    (rest-is _ (entryIn _) _ _ _ _ (c .before .before .before .before .loop .inv .1) (c .before .before .walk .given .1)) (c .next-place .ensures)
 
 enum-known-walk-2 : tie.Need-enum-known-walk-2 Inv-loop μ-loop
 enum-known-walk-2 c = search needs
@@ -57,7 +59,9 @@ returns-3 c =
     let b = c .before .before .before .before .after-element .ensures _ in (
       at-within _ _ _ (c .before .i .given .1) (c .before .before .before .level-at .ensures .1),
       b .walk .good,
-      element-some _ (entryIn _) _ _ _ _ _ _ (c .before .before .before .before .before .before .walk2 .given .1) (c .before .before .before .before .before .before .before .before .loop .inv .1) (g .1 _) _ b _ (is-at _ _ _ (c .before .i .given .1) (c .before .before .before .level-at .ensures .0 _)),
+      element-some _ (entryIn _) _ _ _ _ _ _ (c .before .before .before .before .before .before .walk2 .given .1)
+          (c .before .before .before .before .before .before .before .before .loop .inv .1) (g .1 _) _ b _
+          (is-at _ _ _ (c .before .i .given .1) (c .before .before .before .level-at .ensures .0 _)),
     )
 
 enum-told-2 : tie.Need-enum-told-2 Inv-loop μ-loop
@@ -67,14 +71,19 @@ loop-less : tie.Need-loop-less Inv-loop μ-loop
 loop-less c =
     let g = standing-elements _ (entryIn _) _ _ _ _ _ (c .before .before .before .before .before .walk2 .given .1)
     (c .before .before .before .before .before .before .before .loop .inv .0) in
-    element-less _ (entryIn _) _ _ _ _ _ _ (c .before .before .before .before .before .walk2 .given .1) (c .before .before .before .before .before .before .before .loop .inv .1) (g .1 _) _ (c .before .before .before .after-element .ensures _)
+    element-less _ (entryIn _) _ _ _ _ _ _ (c .before .before .before .before .before .walk2 .given .1)
+    (c .before .before .before .before .before .before .before .loop .inv .1) (g .1 _) _ (c .before .before .before .after-element .ensures _)
 
 loop-again : tie.Need-loop-again Inv-loop μ-loop
 loop-again c =
     let g = standing-elements _ (entryIn _) _ _ _ _ _ (c .before .before .before .before .before .walk2 .given .1)
     (c .before .before .before .before .before .before .before .loop .inv .0) in
-    let b = c .before .before .before .after-element .ensures _ in
-    (b .walk .good, element-none _ (entryIn _) _ _ _ _ _ _ (c .before .before .before .before .before .walk2 .given .1) (c .before .before .before .before .before .before .before .loop .inv .1) (g .1 _) _ b (is-nothing _ _ (c .enum-told2 .given .1) (c .before .before .level-at .ensures .0 _)))
+    let b = c .before .before .before .after-element .ensures _ in (
+      b .walk .good,
+      element-none _ (entryIn _) _ _ _ _ _ _ (c .before .before .before .before .before .walk2 .given .1)
+          (c .before .before .before .before .before .before .before .loop .inv .1) (g .1 _) _ b
+          (is-nothing _ _ (c .enum-told2 .given .1) (c .before .before .level-at .ensures .0 _)),
+    )
 
 pub next-child-spec : {M : Type 1} → statement M
 next-child-spec =

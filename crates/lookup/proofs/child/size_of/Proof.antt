@@ -20,19 +20,31 @@ enum-known-v : tie.Need-enum-known-v
 enum-known-v c = search needs
 
 add-count-places : tie.Need-add-count-places
-add-count-places c = let l = inside-level _ _ _ (c .before .v .given .1) (inside-is _ _ _ (c .before .before .before .before .f .given .1) (c .before .before .before .before .before .before .before .before .pre .1)) in omega arith
+add-count-places c =
+    let l = inside-level _ _ _ (c .before .v .given .1)
+    (inside-is _ _ _ (c .before .before .before .before .f .given .1) (c .before .before .before .before .before .before .before .before .pre .1)) in
+    omega arith
 
 count-places-requires : tie.Need-count-places-requires
-count-places-requires c κs = let l = inside-level _ _ _ (c .before .v .given .1) (inside-is _ _ _ (c .before .before .before .before .f .given .1) (c .before .before .before .before .before .before .before .before .pre .1)) in (c .before .before .before .before .before .before .before .before .pre .0, omega arith)
+count-places-requires c κs =
+    let l = inside-level _ _ _ (c .before .v .given .1)
+    (inside-is _ _ _ (c .before .before .before .before .f .given .1) (c .before .before .before .before .before .before .before .before .pre .1)) in
+    (c .before .before .before .before .before .before .before .before .pre .0, omega arith)
 
 enum-known-v-2 : tie.Need-enum-known-v-2
 enum-known-v-2 c = search needs
 
 add-count-elements : tie.Need-add-count-elements
-add-count-elements c = let l = inside-list _ _ _ (c .before .v2 .given .1) (inside-is _ _ _ (c .before .before .before .before .f .given .1) (c .before .before .before .before .before .before .before .before .pre .1)) in omega arith
+add-count-elements c =
+    let l = inside-list _ _ _ (c .before .v2 .given .1)
+    (inside-is _ _ _ (c .before .before .before .before .f .given .1) (c .before .before .before .before .before .before .before .before .pre .1)) in
+    omega arith
 
 count-elements-requires : tie.Need-count-elements-requires
-count-elements-requires c κs = let l = inside-list _ _ _ (c .before .v2 .given .1) (inside-is _ _ _ (c .before .before .before .before .f .given .1) (c .before .before .before .before .before .before .before .before .pre .1)) in (c .before .before .before .before .before .before .before .before .pre .0 .rows, omega arith)
+count-elements-requires c κs =
+    let l = inside-list _ _ _ (c .before .v2 .given .1)
+    (inside-is _ _ _ (c .before .before .before .before .f .given .1) (c .before .before .before .before .before .before .before .before .pre .1)) in
+    (c .before .before .before .before .before .before .before .before .pre .0 .rows, omega arith)
 
 returns-2 : tie.Need-returns-2
 returns-2 c = size-level _ _ _ _ _ _ (c .before .before .before .before .before .f .given .1) (c .before .before .v .given .1) (c .count-places .ensures)

@@ -16,7 +16,10 @@ enum-known-i : tie.Need-enum-known-i
 enum-known-i c = search needs
 
 value-at-requires : tie.Need-value-at-requires
-value-at-requires c κs = (c .before .before .before .before .before .before .before .pre .0, at-within _ _ _ (c .before .i .given .1) (c .before .before .before .get-entry .ensures .1))
+value-at-requires c κs = (
+  c .before .before .before .before .before .before .before .pre .0,
+  at-within _ _ _ (c .before .i .given .1) (c .before .before .before .get-entry .ensures .1),
+)
 
 returns : tie.Need-returns
 unfolding fieldMeaning
@@ -24,7 +27,10 @@ returns c = (field-none _ _ _ _ (is-nothing _ _ (c .enum-told .given .1) (c .bef
 
 returns-2 : tie.Need-returns-2
 unfolding fieldMeaning
-returns-2 c = (field-some _ _ _ _ _ _ (is-at _ _ _ (c .before .before .i .given .1) (c .before .before .before .before .get-entry .ensures .0)) (c .value-at .ensures .0), c .value-at .ensures .1)
+returns-2 c = (
+  field-some _ _ _ _ _ _ (is-at _ _ _ (c .before .before .i .given .1) (c .before .before .before .before .get-entry .ensures .0)) (c .value-at .ensures .0),
+  c .value-at .ensures .1,
+)
 
 pub get-spec : {M : Type 1} → statement M
 get-spec =

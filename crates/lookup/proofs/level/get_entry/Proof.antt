@@ -12,8 +12,10 @@ last-named-requires c κs = (c .before .before .before .before .pre .0, c .end-o
 
 returns : tie.Need-returns
 returns c =
-    let u = c .before .end-of .ensures in
-    (c .last-named .ensures .0 ∙ find-run _ _ _ _ _ _ u (c .before .before .before .before .before .pre .2), within-more _ _ (c .last-named .result) (u .below .high) (c .last-named .ensures .1))
+    let u = c .before .end-of .ensures in (
+      c .last-named .ensures .0 ∙ find-run _ _ _ _ _ _ u (c .before .before .before .before .before .pre .2),
+      within-more _ _ (c .last-named .result) (u .below .high) (c .last-named .ensures .1),
+    )
 
 pub get-entry-spec : {M : Type 1} → statement M
 get-entry-spec = tie.close (tie.spec end-of-requires last-named-requires returns)

@@ -37,20 +37,28 @@ enum-known-at c = search needs
 next-element-requires : tie.Need-next-element-requires Inv-loop μ-loop
 next-element-requires c κs =
     let v = c .before .before .before .loop .inv in
-    let h = c .before .at .given .1 in
-    (c .before .before .before .before .before .before .pre .0, at-within _ _ _ h (v .0), record { file = []; number = _; is = sym (is-at _ _ _ h (v .1 [] .next)) })
+    let h = c .before .at .given .1 in (
+      c .before .before .before .before .before .before .pre .0,
+      at-within _ _ _ h (v .0),
+      record { file = []; number = _; is = sym (is-at _ _ _ h (v .1 [] .next)) },
+    )
 
 add-n : tie.Need-add-n Inv-loop μ-loop
 add-n c =
-    let a = counted-less _ _ _ _ (c .before .before .before .before .loop .inv .1 []) (c .before .before .at .given .1) in
-    let b = elements-short mostDepth [] (entryIn (c .before .before .before .before .before .before .before .args .table .now)) (c .before .before .before .before .before .before .before .args .used) (c .before .before .before .before .before .before .before .args .parent) in
-    omega (arith, a, b, c .before .before .before .before .before .before .before .pre .0 .room, c .before .before .before .before .before .before .before .good .0 .1)
+    let b = c .before .before .before .before .before .before .before in
+    let a = b .args in
+    let l = counted-less _ _ _ _ (c .before .before .before .before .loop .inv .1 []) (c .before .before .at .given .1) in
+    let k = elements-short mostDepth [] (entryIn (a .table .now)) (a .used) (a .parent) in
+    omega (arith, l, k, b .pre .0 .room, b .good .0 .1)
 
 loop-less : tie.Need-loop-less Inv-loop μ-loop
 loop-less c = let a = counted-less _ _ _ _ (c .before .before .before .before .loop .inv .1 []) (c .before .before .at .given .1) in omega (arith, a)
 
 loop-again : tie.Need-loop-again Inv-loop μ-loop
-loop-again c = (c .next-element .ensures .1, λ s. counted-more _ _ _ _ _ (c .before .before .before .before .loop .inv .1 s) (c .before .before .at .given .1) (c .next-element .ensures .0 s _))
+loop-again c = (
+  c .next-element .ensures .1,
+  λ s. counted-more _ _ _ _ _ (c .before .before .before .before .loop .inv .1 s) (c .before .before .at .given .1) (c .next-element .ensures .0 s _),
+)
 
 pub count-elements-spec : {M : Type 1} → statement M
 count-elements-spec =

@@ -15,7 +15,9 @@ is-list-requires : tie.Need-is-list-requires
 is-list-requires c κs = search needs
 
 returns : tie.Need-returns
-returns c = λ s. list-yes s (entryIn _) _ _ (c .before .before .before .entry-at .result) (c .before .before .before .entry-at .ensures) _ (c .before .if1 .taken) (c .is-list .ensures s)
+returns c =
+    λ s. list-yes s (entryIn _) _ _ (c .before .before .before .entry-at .result) (c .before .before .before .entry-at .ensures) _
+    (c .before .if1 .taken) (c .is-list .ensures s)
 
 returns-2 : tie.Need-returns-2
 returns-2 c = λ s. list-no s (entryIn _) _ _ (c .before .before .entry-at .result) (c .before .before .entry-at .ensures) (c .if1 .left)

@@ -33,8 +33,11 @@ returns-2 : tie.Need-returns-2 Inv-loop μ-loop
 unfolding found
 returns-2 c =
     let e = c .before .before .before .before .entry-at in
-    let l = c .before .before .before .before .before .loop-test .taken in
-    (sym (ap headOf (c .before .before .before .before .before .before .loop .inv .1 ∙ kid-yes (entryIn _) _ _ _ (e .result) (e .ensures) l (c .before .before .if2 .taken) (c .if3 .taken))), l)
+    let l = c .before .before .before .before .before .loop-test .taken in (
+      sym (ap headOf (c .before .before .before .before .before .before .loop .inv .1
+          ∙ kid-yes (entryIn _) _ _ _ (e .result) (e .ensures) l (c .before .before .if2 .taken) (c .if3 .taken))),
+      l,
+    )
 
 after-requires : tie.Need-after-requires Inv-loop μ-loop
 after-requires c κs = (c .before .before .before .before .before .before .pre .0, c .before .before .before .loop-test .taken)

@@ -24,15 +24,20 @@ add-next-unnamed c = let b = at-within _ _ _ (c .before .i .given .1) (c .before
 
 next-unnamed-requires-2 : tie.Need-next-unnamed-requires-2
 next-unnamed-requires-2 c κs =
-    let h = is-at _ _ _ (c .before .i .given .1) (c .before .before .before .next-unnamed .ensures .0) ∙ ap headOf (sym (kids-own (entryIn _) _ _ (c .before .before .before .before .before .pre .0 .order) (c .before .before .before .before .before .pre .1))) in
-    let b = head-low (entryIn _) _ _ _ (c .before .before .before .before .before .pre .0 .order) h in
-    (c .before .before .before .before .before .pre .0, omega arith)
+    let p = c .before .before .before .before .before .pre in
+    let h = is-at _ _ _ (c .before .i .given .1) (c .before .before .before .next-unnamed .ensures .0)
+    ∙ ap headOf (sym (kids-own (entryIn _) _ _ (p .0 .order) (p .1))) in
+    let b = head-low (entryIn _) _ _ _ (p .0 .order) h in
+    (p .0, omega arith)
 
 enum-told-2 : tie.Need-enum-told-2
 enum-told-2 c = search needs
 
 level-at-requires : tie.Need-level-at-requires
-level-at-requires c κs = (c .before .before .before .before .before .before .before .before .pre .0, at-within _ _ _ (c .before .before .before .before .i .given .1) (c .before .before .before .before .before .before .next-unnamed .ensures .1))
+level-at-requires c κs = (
+  c .before .before .before .before .before .before .before .before .pre .0,
+  at-within _ _ _ (c .before .before .before .before .i .given .1) (c .before .before .before .before .before .before .next-unnamed .ensures .1),
+)
 
 enum-told-3 : tie.Need-enum-told-3
 enum-told-3 c = search needs
@@ -40,19 +45,25 @@ enum-told-3 c = search needs
 returns : tie.Need-returns
 unfolding found
 returns c =
-    let h = is-nothing _ _ (c .enum-told .given .1) (c .before .before .next-unnamed .ensures .0) ∙ ap headOf (sym (kids-own (entryIn _) _ _ (c .before .before .before .before .pre .0 .order) (c .before .before .before .before .pre .1))) in
+    let p = c .before .before .before .before .pre in
+    let h = is-nothing _ _ (c .enum-told .given .1) (c .before .before .next-unnamed .ensures .0)
+    ∙ ap headOf (sym (kids-own (entryIn _) _ _ (p .0 .order) (p .1))) in
     (λ s. only-none s (entryIn _) _ _ h, tt)
 
 returns-2 : tie.Need-returns-2
 returns-2 c =
-    let h = is-at _ _ _ (c .before .before .before .before .before .i .given .1) (c .before .before .before .before .before .before .before .next-unnamed .ensures .0) ∙ ap headOf (sym (kids-own (entryIn _) _ _ (c .before .before .before .before .before .before .before .before .before .pre .0 .order) (c .before .before .before .before .before .before .before .before .before .pre .1))) in
+    let d = c .before .before .before .before .before in
+    let p = d .before .before .before .before .pre in
+    let h = is-at _ _ _ (d .i .given .1) (d .before .before .next-unnamed .ensures .0) ∙ ap headOf (sym (kids-own (entryIn _) _ _ (p .0 .order) (p .1))) in
     let k = is-nothing _ _ (c .before .enum-told2 .given .1) (c .before .before .before .next-unnamed2 .ensures .0) in
     (λ s. only-one s (entryIn _) _ _ _ _ h k (c .level-at .ensures .0 s), c .level-at .ensures .1)
 
 returns-3 : tie.Need-returns-3
 unfolding found
 returns-3 c =
-    let h = is-at _ _ _ (c .before .before .before .before .i .given .1) (c .before .before .before .before .before .before .next-unnamed .ensures .0) ∙ ap headOf (sym (kids-own (entryIn _) _ _ (c .before .before .before .before .before .before .before .before .pre .0 .order) (c .before .before .before .before .before .before .before .before .pre .1))) in
+    let d = c .before .before .before .before in
+    let p = d .before .before .before .before .pre in
+    let h = is-at _ _ _ (d .i .given .1) (d .before .before .next-unnamed .ensures .0) ∙ ap headOf (sym (kids-own (entryIn _) _ _ (p .0 .order) (p .1))) in
     let k = is-at _ _ _ (c .enum-told3 .given .1) (c .before .before .next-unnamed2 .ensures .0) in
     (λ s. only-many s (entryIn _) _ _ _ _ h k, tt)
 

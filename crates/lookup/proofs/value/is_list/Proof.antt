@@ -32,7 +32,8 @@ returns c =
 returns-2 : tie.Need-returns-2 Inv-loop μ-loop
 returns-2 c =
     let e = c .before .before .before .before .entry-at .ensures in
-    λ s. sym (not-list s _ _ _ _ (c .before .before .before .before .before .loop-test .taken) (ap (λ (x : Entry). x .parent) (sym e) ∙ c .before .before .if2 .taken) (λ z. c .if3 .taken (ap (λ (x : Entry). x .units) e ∙ z)))
+    λ s. sym (not-list s _ _ _ _ (c .before .before .before .before .before .loop-test .taken)
+    (ap (λ (x : Entry). x .parent) (sym e) ∙ c .before .before .if2 .taken) (λ z. c .if3 .taken (ap (λ (x : Entry). x .units) e ∙ z)))
 
 after-requires : tie.Need-after-requires Inv-loop μ-loop
 after-requires c κs = (c .before .before .before .before .before .before .pre .0, c .before .before .before .loop-test .taken)
@@ -48,7 +49,8 @@ loop-again c =
       r .below .high,
       omega (arith, r .below .low, v .1),
       λ s. plain-hop s _ _ _ _ _ _ (v .1) r (⊎-elim
-          (λ w. rw (w .3) (plain-more s _ _ _ _ (v .2 s) (ap (λ (x : Entry). x .parent) (sym e) ∙ w .0 .taken) (ap (λ (x : Entry). x .units) (sym e) ∙ w .2 .left)))
+          (λ w. rw (w .3) (plain-more s _ _ _ _ (v .2 s) (ap (λ (x : Entry). x .parent) (sym e) ∙ w .0 .taken)
+          (ap (λ (x : Entry). x .units) (sym e) ∙ w .2 .left)))
           (λ w. rw (w .1) (plain-other s _ _ _ _ (v .2 s) (λ z. w .0 .left (ap (λ (x : Entry). x .parent) e ∙ z))))
           (c .before .if2 .came)),
     )

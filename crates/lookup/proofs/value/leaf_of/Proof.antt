@@ -10,7 +10,9 @@ use Rattle.lookup.proofs.value.leaf_of.Tie as tie
 
 shared-slice-read-t7 : tie.Need-shared-slice-read-t7
 unfolding fixedLen
-shared-slice-read-t7 c = let h = lies-fixed _ _ _ 1 (c .before .before .before .pre .0) (c .before .if1 .taken) (λ z. omega arith) (λ z. omega arith) (λ z. omega arith) refl in omega arith
+shared-slice-read-t7 c =
+    let h = lies-fixed _ _ _ 1 (c .before .before .before .pre .0) (c .before .if1 .taken) (λ z. omega arith) (λ z. omega arith) (λ z. omega arith)
+    refl in omega arith
 
 returns : tie.Need-returns
 unfolding meaning
@@ -30,7 +32,8 @@ returns-2 c =
 
 le4-requires-2 : tie.Need-le4-requires-2
 unfolding fixedLen
-le4-requires-2 c κs = lies-fixed _ _ _ 4 (c .before .before .before .before .pre .0) (c .if3 .taken) (λ z. omega arith) (λ z. omega arith) (λ z. omega arith) refl
+le4-requires-2 c κs =
+    lies-fixed _ _ _ 4 (c .before .before .before .before .pre .0) (c .if3 .taken) (λ z. omega arith) (λ z. omega arith) (λ z. omega arith) refl
 
 returns-3 : tie.Need-returns-3
 unfolding meaning
@@ -38,7 +41,9 @@ returns-3 c = (λ es. leaf-u32 _ _ _ (c .before .if3 .taken) (c .le42 .ensures .
 
 le8-requires : tie.Need-le8-requires
 unfolding fixedLen
-le8-requires c κs = lies-fixed _ _ _ 8 (c .before .before .before .before .before .pre .0) (c .if4 .taken) (λ z. omega arith) (λ z. omega arith) (λ z. omega arith) refl
+le8-requires c κs =
+    lies-fixed _ _ _ 8 (c .before .before .before .before .before .pre .0) (c .if4 .taken) (λ z. omega arith) (λ z. omega arith) (λ z. omega arith)
+    refl
 
 signed-of-requires-2 : tie.Need-signed-of-requires-2
 signed-of-requires-2 c κs = search needs
@@ -50,7 +55,9 @@ returns-4 c =
 
 le8-requires-2 : tie.Need-le8-requires-2
 unfolding fixedLen
-le8-requires-2 c κs = lies-fixed _ _ _ 8 (c .before .before .before .before .before .before .pre .0) (c .if5 .taken) (λ z. omega arith) (λ z. omega arith) (λ z. omega arith) refl
+le8-requires-2 c κs =
+    lies-fixed _ _ _ 8 (c .before .before .before .before .before .before .pre .0) (c .if5 .taken) (λ z. omega arith) (λ z. omega arith)
+    (λ z. omega arith) refl
 
 double-of-requires : tie.Need-double-of-requires
 double-of-requires c κs = search needs
@@ -68,11 +75,20 @@ unfolding meaning
 returns-7 c = (λ es. leaf-bytes _ _ (c .if7 .taken), λ n. tt)
 
 le8-requires-3 : tie.Need-le8-requires-3
-le8-requires-3 c κs = lies-wide _ _ (c .before .before .before .before .before .before .before .before .pre .0) (c .before .before .before .before .before .before .if1 .left) (c .before .before .before .before .before .if2 .left) (c .before .before .before .before .if3 .left) (c .before .if6 .left) (c .if7 .left) (c .before .before .before .before .before .before .before .before .pre .1)
+le8-requires-3 c κs =
+    lies-wide _ _ (c .before .before .before .before .before .before .before .before .pre .0)
+    (c .before .before .before .before .before .before .if1 .left) (c .before .before .before .before .before .if2 .left)
+    (c .before .before .before .before .if3 .left) (c .before .if6 .left) (c .if7 .left)
+    (c .before .before .before .before .before .before .before .before .pre .1)
 
 returns-8 : tie.Need-returns-8
 unfolding meaning
-returns-8 c = (λ es. leaf-rest _ _ _ (c .le83 .ensures) (c .before .before .before .before .before .before .before .if1 .left) (c .before .before .before .before .before .before .if2 .left) (c .before .before .before .before .before .if3 .left) (c .before .before .before .before .if4 .left) (c .before .before .before .if5 .left) (c .before .before .if6 .left) (c .before .if7 .left), λ n. tt)
+returns-8 c = (
+  λ es. leaf-rest _ _ _ (c .le83 .ensures) (c .before .before .before .before .before .before .before .if1 .left)
+      (c .before .before .before .before .before .before .if2 .left) (c .before .before .before .before .before .if3 .left)
+      (c .before .before .before .before .if4 .left) (c .before .before .before .if5 .left) (c .before .before .if6 .left) (c .before .if7 .left),
+  λ n. tt,
+)
 
 pub leaf-of-spec : {M : Type 1} → statement M
 leaf-of-spec =

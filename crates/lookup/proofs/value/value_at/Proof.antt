@@ -16,16 +16,35 @@ is-list-requires : tie.Need-is-list-requires
 is-list-requires c κs = search needs
 
 returns : tie.Need-returns
-returns c = (value-items _ _ _ _ (c .before .before .before .before .before .before .before .pre .1) (ap (λ (x : Entry). x .kind) (sym (c .before .before .before .before .entry-at .ensures)) ∙ c .before .before .if1 .taken) (sym (c .before .is-list .ensures _) ∙ c .if2 .taken), c .before .before .before .before .before .before .before .pre .1)
+returns c = (
+  value-items _ _ _ _ (c .before .before .before .before .before .before .before .pre .1)
+      (ap (λ (x : Entry). x .kind) (sym (c .before .before .before .before .entry-at .ensures)) ∙ c .before .before .if1 .taken)
+      (sym (c .before .is-list .ensures _) ∙ c .if2 .taken),
+  c .before .before .before .before .before .before .before .pre .1,
+)
 
 returns-2 : tie.Need-returns-2
-returns-2 c = (value-level _ _ _ _ (c .before .before .before .before .before .before .before .pre .1) (ap (λ (x : Entry). x .kind) (sym (c .before .before .before .before .entry-at .ensures)) ∙ c .before .before .if1 .taken) (sym (c .before .is-list .ensures _) ∙ c .if2 .left), c .before .before .before .before .before .before .before .pre .1)
+returns-2 c = (
+  value-level _ _ _ _ (c .before .before .before .before .before .before .before .pre .1)
+      (ap (λ (x : Entry). x .kind) (sym (c .before .before .before .before .entry-at .ensures)) ∙ c .before .before .if1 .taken)
+      (sym (c .before .is-list .ensures _) ∙ c .if2 .left),
+  c .before .before .before .before .before .before .before .pre .1,
+)
 
 leaf-of-requires : tie.Need-leaf-of-requires
-leaf-of-requires c κs = (rw (c .before .before .entry-at .ensures) (c .before .before .before .before .before .pre .0 .lie _ (c .before .before .before .before .before .pre .1)), c .if1 .left)
+leaf-of-requires c κs = (
+  rw (c .before .before .entry-at .ensures) (c .before .before .before .before .before .pre .0 .lie _ (c .before .before .before .before .before .pre .1)),
+  c .if1 .left,
+)
 
 returns-3 : tie.Need-returns-3
-returns-3 c = (c .leaf-of .ensures .0 _ ∙ rw (c .before .before .before .entry-at .ensures) (sym (value-leaf _ _ _ _ (c .before .before .before .before .before .before .pre .1) (λ z. c .before .if1 .left (ap (λ (x : Entry). x .kind) (c .before .before .before .entry-at .ensures) ∙ z)))), c .leaf-of .ensures .1 _)
+returns-3 c = (
+  c .leaf-of .ensures .0 _
+      ∙ rw (c .before .before .before .entry-at .ensures)
+      (sym (value-leaf _ _ _ _ (c .before .before .before .before .before .before .pre .1)
+      (λ z. c .before .if1 .left (ap (λ (x : Entry). x .kind) (c .before .before .before .entry-at .ensures) ∙ z)))),
+  c .leaf-of .ensures .1 _,
+)
 
 pub value-at-spec : {M : Type 1} → statement M
 value-at-spec =
