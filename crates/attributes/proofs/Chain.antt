@@ -38,7 +38,8 @@ in-level s es none q = rw q refl
 in-level s es (some i) q =
     let number : List ℕ → Option ℕ = λ n. bind (fieldIn s es i n) unsigned in
     rw q
-    (sym (five-then (number (ascii "uiWidth")) (number (ascii "uiWidthBytes")) (number (ascii "uiHeight")) (number (ascii "uiComp")) (below32 (number (ascii "uiBpcInMemory")))
+    (sym (five-then (number (ascii "uiWidth")) (number (ascii "uiWidthBytes")) (number (ascii "uiHeight")) (number (ascii "uiComp"))
+    (below32 (number (ascii "uiBpcInMemory")))
     (judgedBy (uncompressed (bind (fieldIn s es i (ascii "eCompression")) signed)))))
 
 -- the attributes of a level, by its readings

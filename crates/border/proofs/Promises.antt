@@ -52,7 +52,8 @@ module _ (s tab : List ℕ) (scene t c z : ℕ) (buf : List ℕ) where
   unfolding borderCall openCall planeAfter numberOf summaryOrZero
   after-opened e = go (opened s (roomIn (length tab))) (opened-some s (roomIn (length tab))) e
     where
-      go : (x : Answer Summary) → Numbered NotZero x → numberOf x ≡ 0 → (planeAfter s scene t c z buf x .number ≡ planeCall s (summaryOrZero x) scene t c z buf .number)
+      go : (x : Answer Summary) → Numbered NotZero x → numberOf x ≡ 0
+          → (planeAfter s scene t c z buf x .number ≡ planeCall s (summaryOrZero x) scene t c z buf .number)
           × (planeAfter s scene t c z buf x .buffer ≡ planeCall s (summaryOrZero x) scene t c z buf .buffer)
       go (refused n) (refusal h) e = absurd (omega arith)
       go (given u) h e = (refl, refl)
@@ -104,7 +105,8 @@ module _ (s tab : List ℕ) (scene t c z : ℕ) (buf : List ℕ) where
         ),
       )
 
-  pub opened-border : {n : ℕ} {out left : List ℕ} {u : Summary} → number ≡ 0 → u ≡ theirs → n ≡ planeCall s u scene t c z buf .number → out ≡ planeCall s u scene t c z buf .buffer
+  pub opened-border : {n : ℕ} {out left : List ℕ} {u : Summary} → number ≡ 0 → u ≡ theirs → n ≡ planeCall s u scene t c z buf .number
+      → out ≡ planeCall s u scene t c z buf .buffer
       → left ≡ zeros (length tab) → Promised n out left
   opened-border {n} {out} {u = v} o w e₀ f₀ l =
       let e : n ≡ planeCall s theirs scene t c z buf .number = rw w at e₀ in

@@ -45,7 +45,8 @@ module _ (s : List ℕ) (es : List Entry) (i levels : ℕ) where
     step-own o x q e = q ∙ sym (step-one ∙ rw (← e, q) refl)
 
     pub step-below : (f : Option Value) (l : List ℕ) (o : Option Float)
-        → none ≡ stepAt s es i → f ≡ fieldIn s es i (ascii "ppNextLevelEx") → childLevels s es f ≡ l → o ≡ firstOf (zStep (levels - 1) s es) l → o ≡ zStep levels s es i
+        → none ≡ stepAt s es i → f ≡ fieldIn s es i (ascii "ppNextLevelEx") → childLevels s es f ≡ l → o ≡ firstOf (zStep (levels - 1) s es) l
+        → o ≡ zStep levels s es i
     unfolding orElse ascii
     step-below f l o e p q g =
         let w : below s es i ≡ l = ap (childLevels s es) (sym p) ∙ q in

@@ -34,6 +34,7 @@ module _ (s : List ℕ) (es : List Entry) where
       unfolding planesLevel bind orElse ascii
       new-planes k g = rw (← e, ← f, ← g) refl
 
-      pub old-planes : {o : Option ℕ} → none ≡ asLevel (fieldIn s es j (ascii "sPlaneNew")) → o ≡ asLevel (fieldIn s es j (ascii "sPlane")) → o ≡ planesLevel s es
+      pub old-planes : {o : Option ℕ} → none ≡ asLevel (fieldIn s es j (ascii "sPlaneNew")) → o ≡ asLevel (fieldIn s es j (ascii "sPlane"))
+          → o ≡ planesLevel s es
       unfolding planesLevel bind orElse ascii
       old-planes g h = rw (← e, ← f, ← g) h

@@ -43,7 +43,8 @@ module _ (s : List ℕ) (es : List Entry) {f : Field} {r : Channel} where
     unfolding fieldMeaning
     text-other k e = rw h (e ∙ go v k)
       where
-        go : (w : ClxValue) → OneOf (0 ∷ 1 ∷ 2 ∷ 3 ∷ 5 ∷ 6 ∷ 7 ∷ []) (tagOf the-type w) → withColor none 0 0 0 ≡ withText (some (meaning s es w)) (withColor none)
+        go : (w : ClxValue) → OneOf (0 ∷ 1 ∷ 2 ∷ 3 ∷ 5 ∷ 6 ∷ 7 ∷ []) (tagOf the-type w)
+            → withColor none 0 0 0 ≡ withText (some (meaning s es w)) (withColor none)
         go (clx.Flag b) k = unfold withText meaning in refl
         go (clx.Whole n) k = unfold withText meaning in refl
         go (clx.Below n) k = unfold withText meaning in refl
@@ -64,14 +65,16 @@ with-name (some (whole z)) k = refl
 with-name (some (double b)) k = refl
 with-name (some (text i n)) k = go (eqb n 0)
   where
-    go : (b : Bool) → let c = cond b (withColor none 0 0 0) (withColor none 1 i n) in withColor k (c .named) (c .name) (c .units) ≡ cond b (withColor k 0 0 0) (withColor k 1 i n)
+    go : (b : Bool) → let c = cond b (withColor none 0 0 0) (withColor none 1 i n) in
+        withColor k (c .named) (c .name) (c .units) ≡ cond b (withColor k 0 0 0) (withColor k 1 i n)
     go true = refl
     go false = refl
 with-name (some (bytes i n)) k = refl
 with-name (some (level i)) k = refl
 with-name (some (list l)) k = refl
 
-as-name : (o : Option Value) (k : Option ℕ) (c : Channel) → c ≡ withText o (withColor none) → withColor k (c .named) (c .name) (c .units) ≡ withText o (withColor k)
+as-name : (o : Option Value) (k : Option ℕ) (c : Channel) → c ≡ withText o (withColor none)
+    → withColor k (c .named) (c .name) (c .units) ≡ withText o (withColor k)
 as-name o k c e = rw e (with-name o k)
 
 pub channel-is : (s : List ℕ) (es : List Entry) (i : ℕ) {c r : Channel} {f : Option Value} {k : Option ℕ}

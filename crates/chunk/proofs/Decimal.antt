@@ -68,7 +68,9 @@ abbrev prefix : List ℕ
 prefix = 73 ∷ 109 ∷ 97 ∷ 103 ∷ 101 ∷ 68 ∷ 97 ∷ 116 ∷ 97 ∷ 83 ∷ 101 ∷ 113 ∷ 124 ∷ []
 
 thirteen : (d : List ℕ) (i a b c e f g h j k l m n o : ℕ)
-    → set (set (set (set (set (set (set (set (set (set (set (set (set d i a) (i + 1) b) (i + 2) c) (i + 3) e) (i + 4) f) (i + 5) g) (i + 6) h) (i + 7) j) (i + 8) k) (i + 9) l) (i + 10) m) (i + 11) n) (i + 12) o
+    → set (set (set (set
+    (set (set (set (set (set (set (set (set (set d i a) (i + 1) b) (i + 2) c) (i + 3) e) (i + 4) f) (i + 5) g) (i + 6) h) (i + 7) j) (i + 8) k)
+    (i + 9) l) (i + 10) m) (i + 11) n) (i + 12) o
     ≡ sets d i (a ∷ b ∷ c ∷ e ∷ f ∷ g ∷ h ∷ j ∷ k ∷ l ∷ m ∷ n ∷ o ∷ [])
 thirteen d i a b c e f g h j k l m n o =
     let z9 : i + 9 ≡ suc (i + 8) = omega arith in
@@ -79,7 +81,9 @@ thirteen d i a b c e f g h j k l m n o =
 
 -- thirteen bytes stored before n's digits
 pub named : (n : ℕ) (r : Name) → Written n r → (i : ℕ) → i ≡ r .from - 13
-    → drop i (set (set (set (set (set (set (set (set (set (set (set (set (set (r .name) i 73) (i + 1) 109) (i + 2) 97) (i + 3) 103) (i + 4) 101) (i + 5) 68) (i + 6) 97) (i + 7) 116) (i + 8) 97) (i + 9) 83) (i + 10) 101) (i + 11) 113) (i + 12) 124)
+    → drop i (set (set (set
+    (set (set (set (set (set (set (set (set (set (set (r .name) i 73) (i + 1) 109) (i + 2) 97) (i + 3) 103) (i + 4) 101) (i + 5) 68) (i + 6) 97)
+    (i + 7) 116) (i + 8) 97) (i + 9) 83) (i + 10) 101) (i + 11) 113) (i + 12) 124)
     ≡ frameName n
 unfolding frameName ascii
 named n r w i q =
@@ -87,7 +91,8 @@ named n r w i q =
     let a : i + 13 ≡ r .from = omega (arith, w .low) in
     let b : i + 13 ≤ length (r .name) = omega (arith, t .high, t .size) in
     rw (thirteen (r .name) i, sets-eq prefix (r .name) i b, append-assoc)
-    (drop-at (take i (r .name)) (prefix ++ drop (i + 13) (r .name)) i (length-take-le i (r .name) (omega arith)) ∙ (rw (a, t .tail) (sym (append-assoc prefix (decimal n) (33 ∷ [])))))
+    (drop-at (take i (r .name)) (prefix ++ drop (i + 13) (r .name)) i (length-take-le i (r .name) (omega arith))
+    ∙ (rw (a, t .tail) (sym (append-assoc prefix (decimal n) (33 ∷ [])))))
 
 -- the part of the array that is handed on is the text
 pub name-part : (text : List ℕ) (r : Name) → Spelled text r → take (40 - r .from) (drop (r .from) (r .name)) ≡ text

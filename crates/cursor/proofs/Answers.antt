@@ -10,7 +10,8 @@ use lib.Dec.{eqb}
 use Rattle.format.proofs.Trees.ByRules.{records-step}
 use Rattle.format.specs.Bytes.{leAt}
 use Rattle.format.specs.Text.{units}
-use Rattle.format.specs.Trees.{at, fault, Read, ends, follow, fixedValue, textUnits, textValue, bytesValue, Children, levelValue, levelEnd, fixedLen, value, known, ChildrenAt, recordAt, records}
+use Rattle.format.specs.Trees.{at, fault, Read, ends, follow, fixedValue, textUnits, textValue, bytesValue, Children, levelValue, levelEnd, fixedLen}
+use Rattle.format.specs.Trees.{value, known, ChildrenAt, recordAt, records}
 use Rattle.format.specs.declared.Entry.{Entry}
 use Rattle.cursor.proofs.Reading.{was-cut, was-got}
 use Rattle.cursor.specs.Words.{Within, to, wordOf, wordAt}
@@ -31,7 +32,8 @@ head-end d c h = record { says = λ base children parent count used. rw (lt-ltb 
 
 -- the head at i, of type k and with a name of m units, in a level that ends at e
 module _ (d : List ℕ) {i e k m : ℕ} (two : i + 2 ≤ e) (kind : k ≡ getD d i 0) (count : m ≡ getD d (i + 1) 0) where
-  bad : (x : ℕ) → ((base : ℕ) (children : ChildrenAt) (parent used : ℕ) → recordAt d base children parent used i e ≡ ends (fault x)) → HeadRead d (to i e) (Bad x)
+  bad : (x : ℕ) → ((base : ℕ) (children : ChildrenAt) (parent used : ℕ) → recordAt d base children parent used i e ≡ ends (fault x))
+      → HeadRead d (to i e) (Bad x)
   unfolding follow
   bad x q = record { says = λ base children parent n used. records-step d base children parent n used i e two ∙ rw (q base children parent used); good = tt }
 
@@ -54,7 +56,8 @@ module _ (d : List ℕ) {i e k m : ℕ} (two : i + 2 ≤ e) (kind : k ≡ getD d
         unfolding recordAt
         head-unknown h = bad 7 λ base children parent used. rw (← kind, ← count, ne-eqb k 76 plain, late, le-ltb e (i + 2 + 2 * m) (omega arith), h)
 
-        pub head-named : {u : ℕ} → e ≤ length d → known k ≡ true → u ≡ m - 1 → HeadRead d (to i e) (Named (record { kind = k; start = i; units = u }) (to (i + 2 + 2 * m) e))
+        pub head-named : {u : ℕ} → e ≤ length d → known k ≡ true → u ≡ m - 1
+            → HeadRead d (to i e) (Named (record { kind = k; start = i; units = u }) (to (i + 2 + 2 * m) e))
         unfolding recordAt
         head-named w h q =
             record {
@@ -66,7 +69,8 @@ module _ (d : List ℕ) {i e k m : ℕ} (two : i + 2 ≤ e) (kind : k ≡ getD d
 
 -- ---- a value that is no level
 
-pub leaf-same : {d : List ℕ} {e : ℕ} {r : Leaf} (f g : (ℕ → ℕ → Entry) → Read) → ((entry : ℕ → ℕ → Entry) → f entry ≡ g entry) → LeafRead d e g r → LeafRead d e f r
+pub leaf-same : {d : List ℕ} {e : ℕ} {r : Leaf} (f g : (ℕ → ℕ → Entry) → Read) → ((entry : ℕ → ℕ → Entry) → f entry ≡ g entry) → LeafRead d e g r
+    → LeafRead d e f r
 leaf-same f g q l = record { says = λ entry. rw (q entry) (l .says entry); good = l .good }
 
 module _ (d : List ℕ) (children : Children) (k start i e : ℕ) where
@@ -94,18 +98,27 @@ module _ (d : List ℕ) (c : Cursor) (w : Within c d) where
   pub fixed-read : (n : ℕ) → n ≤ c .end - c .at → LeafRead d (c .end) (fixedValue n (c .at) (c .end)) (Value (c .at) n (to (c .at + n) (c .end)))
   unfolding fixedValue
   fixed-read n h =
-      record { says = λ entry. rw (le-leb (c .at + n) (c .end) (omega (arith, w .order))); good = (record { order = omega (arith, w .order); inside = w .inside }, refl, w .order) }
+      record {
+        says = λ entry. rw (le-leb (c .at + n) (c .end) (omega (arith, w .order)));
+        good = (record { order = omega (arith, w .order); inside = w .inside }, refl, w .order);
+      }
 
   module _ {n : ℕ} (size : n ≡ 2 * textUnits (units ((c .end - c .at) / 2) d (c .at))) (fits : c .at + n ≤ c .end) where
     pub text-cut : c .end - (c .at + n) < 2 → LeafRead d (c .end) (textValue d (c .at) (c .end)) (Value (c .at) n (to (c .at + n) (c .end)))
     unfolding textValue
     text-cut h =
-        record { says = λ entry. rw (← size, lt-leb (c .at + n + 2) (c .end) (omega arith)); good = (record { order = fits; inside = w .inside }, refl, w .order) }
+        record {
+          says = λ entry. rw (← size, lt-leb (c .at + n + 2) (c .end) (omega arith));
+          good = (record { order = fits; inside = w .inside }, refl, w .order);
+        }
 
     pub text-ended : 2 ≤ c .end - (c .at + n) → LeafRead d (c .end) (textValue d (c .at) (c .end)) (Value (c .at) n (to (c .at + n + 2) (c .end)))
     unfolding textValue
     text-ended h =
-        record { says = λ entry. rw (← size, le-leb (c .at + n + 2) (c .end) (omega arith)); good = (record { order = omega arith; inside = w .inside }, refl, w .order) }
+        record {
+          says = λ entry. rw (← size, le-leb (c .at + n + 2) (c .end) (omega arith));
+          good = (record { order = omega arith; inside = w .inside }, refl, w .order);
+        }
 
   pub bytes-unsized : wordAt 8 d c ≡ wordOf Cut → LeafRead d (c .end) (bytesValue d (c .at) (c .end)) (Wrong 6)
   unfolding bytesValue
@@ -120,7 +133,11 @@ module _ (d : List ℕ) (c : Cursor) (w : Within c d) where
         let (l, q, p) = was-got 8 d c size in
         let h′ : c .end - (c .at + 8) < n = rw p at h in
         record {
-          says = λ entry. record { one = refl; stops = rw (← q, le-leb (c .at + 8) (c .end) (omega (arith, w .order)), lt-leb (c .at + 8 + n) (c .end) (omega arith)) };
+          says =
+              λ entry. record {
+                one = refl;
+                stops = rw (← q, le-leb (c .at + 8) (c .end) (omega (arith, w .order)), lt-leb (c .at + 8 + n) (c .end) (omega arith));
+              };
           good = tt;
         }
 
@@ -162,7 +179,13 @@ module _ (d : List ℕ) (c : Cursor) (w : Within c d) {start : ℕ} (before : st
           let b = was-cut 8 d l h in
           let b′ : c .end - (c .at + 4) < 8 = rw p at b in
           record {
-            says = λ children entry. rw (le-ltb (c .end) (c .at + 4) (omega (arith, w .order)), ← q, le-ltb 10_000_000 k few, lt-ltb (c .end) (c .at + 12) (omega arith)) (record { one = refl; stops = refl });
+            says =
+                λ children entry. rw (
+                  le-ltb (c .end) (c .at + 4) (omega (arith, w .order)),
+                  ← q,
+                  le-ltb 10_000_000 k few,
+                  lt-ltb (c .end) (c .at + 12) (omega arith),
+                ) (record { one = refl; stops = refl });
             good = tt;
           }
 
@@ -183,7 +206,15 @@ module _ (d : List ℕ) (c : Cursor) (w : Within c d) {start : ℕ} (before : st
             let (q, r, a, e, f) = numbers in
             record {
               says =
-                  λ children entry. rw (le-ltb (c .end) (c .at + 4) (omega arith), ← q, le-ltb 10_000_000 k few, le-ltb (c .end) (c .at + 12) f, ← r, lt-ltb (start + n) (c .at + 12) (omega arith)) (record { one = refl; stops = refl });
+                  λ children entry. rw (
+                    le-ltb (c .end) (c .at + 4) (omega arith),
+                    ← q,
+                    le-ltb 10_000_000 k few,
+                    le-ltb (c .end) (c .at + 12) f,
+                    ← r,
+                    lt-ltb (start + n) (c .at + 12) (omega arith),
+                  )
+                  (record { one = refl; stops = refl });
               good = tt;
             }
 
@@ -194,7 +225,16 @@ module _ (d : List ℕ) (c : Cursor) (w : Within c d) {start : ℕ} (before : st
               let (q, r, a, e, f) = numbers in
               record {
                 says =
-                    λ children entry. rw (le-ltb (c .end) (c .at + 4) (omega arith), ← q, le-ltb 10_000_000 k few, le-ltb (c .end) (c .at + 12) f, ← r, le-ltb (start + n) (c .at + 12) (omega arith), lt-ltb (c .end) (start + n) (omega arith)) (record { one = refl; stops = refl });
+                    λ children entry. rw (
+                      le-ltb (c .end) (c .at + 4) (omega arith),
+                      ← q,
+                      le-ltb 10_000_000 k few,
+                      le-ltb (c .end) (c .at + 12) f,
+                      ← r,
+                      le-ltb (start + n) (c .at + 12) (omega arith),
+                      lt-ltb (c .end) (start + n) (omega arith),
+                    )
+                    (record { one = refl; stops = refl });
                 good = tt;
               }
 
@@ -204,7 +244,16 @@ module _ (d : List ℕ) (c : Cursor) (w : Within c d) {start : ℕ} (before : st
               let (q, r, a, e, f) = numbers in
               record {
                 says =
-                    λ children entry. rw (a, le-ltb (c .end) (c .at + 4) (omega arith), ← q, le-ltb 10_000_000 k few, le-ltb (c .end) (c .at + 12) f, ← r, le-ltb (start + n) (c .at + 12) (omega arith), le-ltb (c .end) (start + n) (omega arith));
+                    λ children entry. rw (
+                      a,
+                      le-ltb (c .end) (c .at + 4) (omega arith),
+                      ← q,
+                      le-ltb 10_000_000 k few,
+                      le-ltb (c .end) (c .at + 12) f,
+                      ← r,
+                      le-ltb (start + n) (c .at + 12) (omega arith),
+                      le-ltb (c .end) (start + n) (omega arith),
+                    );
                 good =
                     record {
                       kids = record { order = omega arith; inside = omega (arith, w .inside) };

@@ -26,7 +26,8 @@ module _ (n : ℕ) (s : List ℕ) (c : Cursor) where
   unfolding wordAt
   was-cut e = go (ltb (c .end - c .at) n) refl e
     where
-      go : (b : Bool) → ltb (c .end - c .at) n ≡ b → cond b (wordOf Cut) (wordOf (Got (leAt n s (c .at)) (to (c .at + n) (c .end)))) ≡ wordOf Cut → c .end - c .at < n
+      go : (b : Bool) → ltb (c .end - c .at) n ≡ b → cond b (wordOf Cut) (wordOf (Got (leAt n s (c .at)) (to (c .at + n) (c .end)))) ≡ wordOf Cut
+          → c .end - c .at < n
       go true q e = ltb-true _ _ q
       go false q e = absurd (let z : _≡_ {A = ℕ} 0 1 = cc in omega arith)
 

@@ -68,7 +68,8 @@ module _ (s : List ℕ) (es : List Entry) (f : Field) where
     unfolding fieldMeaning meaning loopParams
     params-level i k = rw (h, k) refl
 
-    pub params-list : (i : ℕ) (o : Option ℕ) → v ≡ clx.List i → o ≡ loopParams s es (some (list (elementsOf s es (i + 1)))) → o ≡ loopParams s es (fieldMeaning s es f)
+    pub params-list : (i : ℕ) (o : Option ℕ) → v ≡ clx.List i → o ≡ loopParams s es (some (list (elementsOf s es (i + 1))))
+        → o ≡ loopParams s es (fieldMeaning s es f)
     unfolding fieldMeaning meaning
     params-list i o k q = rw (h, k) (rw (add-one i) at q)
 
@@ -142,7 +143,8 @@ module _ (s : List ℕ) (es : List Entry) (l : List ℕ) (n : ℕ) where
         let e : getElem? l (k .passed) ≡ some i = sym (k .next) ∙ ap found h in
         record { passed = k .passed + 1; all = omega (arith, k .all); few = omega (arith, k .few); next = f (k .passed) e; sum = step e }
       where
-        part : getElem? l (k .passed) ≡ some i → (j : ℕ) → left ≡ suc j → countSet s es (take left (drop (k .passed) l)) ≡ m + countSet s es (take j (drop (suc (k .passed)) l))
+        part : getElem? l (k .passed) ≡ some i → (j : ℕ) → left ≡ suc j
+            → countSet s es (take left (drop (k .passed) l)) ≡ m + countSet s es (take j (drop (suc (k .passed)) l))
         part e j r = rw (r, get-drop l (k .passed) i e, q) refl
 
         step : getElem? l (k .passed) ≡ some i → (count + m) + countSet s es (take (left - 1) (drop (k .passed + 1) l)) ≡ countSet s es (take n l)

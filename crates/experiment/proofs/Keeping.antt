@@ -139,7 +139,8 @@ module _ (b : Built) (bs : List Built) (c v : ℕ) (ls : List Loop) (d : ℕ) (t
     place : Place
     place = go alike refl t
       where
-        go : {x y : Answer (List Loop)} → Alike (axisOf (b .kind)) (b .count) (max (b .count) c) x y → judge [] (reverse (larger b c ∷ bs)) ≡ y → Tells v ls d x → Place
+        go : {x y : Answer (List Loop)} → Alike (axisOf (b .kind)) (b .count) (max (b .count) c) x y → judge [] (reverse (larger b c ∷ bs)) ≡ y
+            → Tells v ls d x → Place
         go neither e (turned q p) = absurd (omega arith)
         go (both ms r) e (accepted q p n) =
             record { before = ms; room = r; places = p; number = n ∙ length-append ms (record { axis = axisOf (b .kind); count = b .count } ∷ []); widened = e }
@@ -150,7 +151,8 @@ module _ (b : Built) (bs : List Built) (c v : ℕ) (ls : List Loop) (d : ℕ) (t
     pub wider-room : d - 1 < 3
     wider-room = omega (arith, place .number, place .room)
 
-    pub wider-kept : Tells v (set ls (d - 1) (record { axis = getD ls (d - 1) noLoop .axis; count = max (getD ls (d - 1) noLoop .count) c })) d (judge [] (reverse (larger b c ∷ bs)))
+    pub wider-kept : Tells v (set ls (d - 1) (record { axis = getD ls (d - 1) noLoop .axis; count = max (getD ls (d - 1) noLoop .count) c })) d
+        (judge [] (reverse (larger b c ∷ bs)))
     wider-kept =
         let p = place in
         let k : Loop = record { axis = axisOf (b .kind); count = b .count } in
@@ -203,7 +205,8 @@ pub append-other : (t c n : ℕ) (k : Kept) (bs : List Built) → Stands k bs �
 unfolding append
 append-other t c n k bs s h f = go bs (s .last) s
   where
-    drop : (b : Built) (bs : List Built) → k .kind ≡ b .kind → k .least ≡ b .nesting + 1 → (x : Bool) → eqb (b .nesting) n ≡ x → (y : Bool) → eqb (b .kind) t ≡ y → Stands k (b ∷ bs)
+    drop : (b : Built) (bs : List Built) → k .kind ≡ b .kind → k .least ≡ b .nesting + 1 → (x : Bool) → eqb (b .nesting) n ≡ x → (y : Bool)
+        → eqb (b .kind) t ≡ y → Stands k (b ∷ bs)
         → Stands k (cond (x && y) (record { kind = t; count = max (b .count) c; nesting = n } ∷ bs) (b ∷ bs))
     drop b bs q p true e true g s = absurd (f (omega (arith, eqb-true (b .nesting) n e)) (omega (arith, eqb-true (b .kind) t g)))
     drop b bs q p true e false g s = s

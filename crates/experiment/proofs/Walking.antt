@@ -52,7 +52,8 @@ module _ (s : List ℕ) (es : List Entry) (i n levels : ℕ) (bs : List Built) w
     walk-loop t c e = walk-step h ∙ (unfold walkOne in rw (← e) (by (eqb t 6)))
       where
         by : (b : Bool)
-            → cond b (walkAll (λ j. walk (levels - 1) s es j n) (below s es i) bs) (walkAll (λ j. walk (levels - 1) s es j (suc n)) (below s es i) (append t c n bs))
+            → cond b (walkAll (λ j. walk (levels - 1) s es j n) (below s es i) bs)
+            (walkAll (λ j. walk (levels - 1) s es j (suc n)) (below s es i) (append t c n bs))
             ≡ walkAll (λ j. walk (levels - 1) s es j (cond b n (suc n))) (below s es i) (cond b bs (append t c n bs))
         by true = refl
         by false = refl
@@ -128,14 +129,16 @@ module _ (go : ℕ → List Built → Answer (List Built)) (l : List ℕ) (first
 
 -- ---- the loops of an experiment
 
-pub experiment-is : (s : List ℕ) (es : List Entry) (i : ℕ) (w : Walked) (number : ℕ) → Gives w (walk mostDepth s es i 0 []) → number ≡ cond (eqb (w .number) 0) (w .kept .verdict) (w .number)
+pub experiment-is : (s : List ℕ) (es : List Entry) (i : ℕ) (w : Walked) (number : ℕ) → Gives w (walk mostDepth s es i 0 [])
+    → number ≡ cond (eqb (w .number) 0) (w .kept .verdict) (w .number)
     → Tells number (w .kept .loops) (w .kept .depth) (experiment s es i)
 unfolding experiment andThen
 experiment-is s es i w number g q = go (walk mostDepth s es i 0 []) (walk-some mostDepth s es i 0 []) g
   where
     go : (x : Answer (List Built)) → Numbered NotZero x → Gives w x → Tells number (w .kept .loops) (w .kept .depth) (andThen x λ bs. judge [] (reverse bs))
     go (refused n) (refusal h) (stopped e) = turned {n = n} (q ∙ rw (ne-eqb (w .number) 0 (λ z. omega arith)) e) h
-    go (given bs) h (went e k) = subst (λ (m : ℕ). Tells m (w .kept .loops) (w .kept .depth) (judge [] (reverse bs))) (sym (q ∙ rw (eq-eqb (w .number) 0 e) refl)) (k .judged)
+    go (given bs) h (went e k) =
+        subst (λ (m : ℕ). Tells m (w .kept .loops) (w .kept .depth) (judge [] (reverse bs))) (sym (q ∙ rw (eq-eqb (w .number) 0 e) refl)) (k .judged)
 
 -- what is handed out where number, loops and depth tell x
 module _ (number : ℕ) (loops : List Loop) (depth : ℕ) (r : Experiment) where
@@ -143,6 +146,7 @@ module _ (number : ℕ) (loops : List Loop) (depth : ℕ) (r : Experiment) where
   loaded-turned (accepted q p d) h e = absurd (h q)
   loaded-turned (turned q p) h e = record { answer = e ∙ rw q refl; tells = rw e (turned q p) }
 
-  pub loaded-kept : {x : Answer (List Loop)} → Tells number loops depth x → number ≡ 0 → r ≡ record { number = number; loops = loops; depth = depth } → Loaded r x
+  pub loaded-kept : {x : Answer (List Loop)} → Tells number loops depth x → number ≡ 0 → r ≡ record { number = number; loops = loops; depth = depth }
+      → Loaded r x
   loaded-kept (accepted q p d) h e = record { answer = e ∙ rw (q, p, d) refl; tells = rw e (accepted q p d) }
   loaded-kept (turned q p) h e = absurd (omega arith)

@@ -58,7 +58,8 @@ next-word l w i v h f e held k m = go (ltb k i) refl
 -- a channel's seven words, stored one after the other
 pub sets-channel : (t : List ℕ) (i : ℕ) (c : Channel)
     → sets t i (channelBytes c)
-    ≡ sets (sets (sets (sets (sets (sets (sets t i (leBytes 8 (c .named))) (i + 8) (leBytes 8 (c .name))) (i + 16) (leBytes 8 (c .units))) (i + 24) (leBytes 8 (c .colored))) (i + 32) (leBytes 8 (c .red))) (i + 40) (leBytes 8 (c .green))) (i + 48) (leBytes 8 (c .blue))
+    ≡ sets (sets (sets (sets (sets (sets (sets t i (leBytes 8 (c .named))) (i + 8) (leBytes 8 (c .name))) (i + 16) (leBytes 8 (c .units))) (i + 24)
+    (leBytes 8 (c .colored))) (i + 32) (leBytes 8 (c .red))) (i + 40) (leBytes 8 (c .green))) (i + 48) (leBytes 8 (c .blue))
 unfolding channelBytes
 sets-channel t i c = simp (sets-append, length-append, leBytes-length)
 

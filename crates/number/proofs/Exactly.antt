@@ -2,7 +2,8 @@
 use mathlib.Core.Path.{_≡_, refl, sym, ap, _∙_, subst}
 use mathlib.Core.Bool.{Bool, true, false, not, cond, _&&_, true≢false}
 use Prim.Native.Nat.{ℕ, suc, _+_, _-_, _*_, _^_, _≤_, _<_}
-use native.Mathlib.Nat.{mul-comm, mul-assoc, mul-right-comm, mul-pos, mul-one, mul-mul-mul-comm, zero-mul, add-mul, mul-sub, lt-of-mul-lt-mul-right, le-of-mul-le-mul-right, mul-lt-mul-of-pos-right, mul-le-mul-right, lt-of-lt-of-le, lt-of-le-of-lt, le-trans, le-of-eq}
+use native.Mathlib.Nat.{mul-comm, mul-assoc, mul-right-comm, mul-pos, mul-one, mul-mul-mul-comm, zero-mul, add-mul, mul-sub, lt-of-mul-lt-mul-right}
+use native.Mathlib.Nat.{le-of-mul-le-mul-right, mul-lt-mul-of-pos-right, mul-le-mul-right, lt-of-lt-of-le, lt-of-le-of-lt, le-trans, le-of-eq}
 use native.Mathlib.Omega.{arith}
 use borrow.Author.Tests.{ltb-true, ltb-false, le-ltb, ne-eqb}
 use lib.Dec.{ltb, eqb, lit<, lit≤}
@@ -40,7 +41,9 @@ taken C c A a B b p q = mul-comm (A - B) c ∙ mul-sub c A B ∙ go ∙ sym (mul
 
 module _ (f : Format) (A a B b C c : ℕ) (D : 0 < c) (E : 0 < C) (p : A * c ≡ a * C) (q : B * c ≡ b * C) where
   joined : (s : Bool) → magnitude (round f s (A + B) C) ≡ round f false (a + b) c
-  joined s = round-clear f s (A + B) C ∙ round-same f false (A + B) C (a + b) c E D (add-mul A B c ∙ ap (λ (x : ℕ). x + B * c) p ∙ ap (λ (x : ℕ). a * C + x) q ∙ sym (add-mul a b C))
+  joined s =
+      round-clear f s (A + B) C
+      ∙ round-same f false (A + B) C (a + b) c E D (add-mul A B c ∙ ap (λ (x : ℕ). x + B * c) p ∙ ap (λ (x : ℕ). a * C + x) q ∙ sym (add-mul a b C))
 
   left : (s t : Bool) (h : ltb A B ≡ t) → magnitude (cond t (round f (not s) (B - A) C) (round f (s && ltb B A) (A - B) C)) ≡ round f false (a - b + (b - a)) c
   left s true h =
@@ -56,7 +59,8 @@ module _ (f : Format) (A a B b C c : ℕ) (D : 0 < c) (E : 0 < C) (p : A * c ≡
   unfolding sum
   lower h =
       let l : B ≤ A = le-of-mul-le-mul-right (le-trans (le-of-eq q) (le-trans (mul-le-mul-right C h) (le-of-eq (sym p)))) D in
-      ap (λ (t : Bool). cond t (round f true (B - A) C) (round f false (A - B) C)) (le-ltb A B l) ∙ round-same f false (A - B) C (a - b) c E D (taken C c A a B b p q)
+      ap (λ (t : Bool). cond t (round f true (B - A) C) (round f false (A - B) C)) (le-ltb A B l)
+      ∙ round-same f false (A - B) C (a - b) c E D (taken C c A a B b p q)
 
   sum-size : (s t : Bool) → magnitude (sum f s A (not t) B C) ≡ round f false (apart s a t b) c
   unfolding sum
@@ -68,7 +72,8 @@ module _ (f : Format) (A a B b C c : ℕ) (D : 0 < c) (E : 0 < C) (p : A * c ≡
 cross : (m u w d e : ℕ) → m * u * w ≡ e * d → (v : ℕ) → m * u * v * w ≡ e * (d * v)
 cross m u w d e h v = mul-right-comm (m * u) v w ∙ ap (λ (x : ℕ). x * v) h ∙ mul-assoc e d v
 
-difference : (f : Format) (x y : Float) (s t : Bool) (a b c : ℕ) → 0 < c → HasValue x s a c → HasValue y t b c → magnitude (sub f x y) ≡ round f false (apart s a t b) c
+difference : (f : Format) (x y : Float) (s t : Bool) (a b c : ℕ) → 0 < c → HasValue x s a c → HasValue y t b c
+    → magnitude (sub f x y) ≡ round f false (apart s a t b) c
 unfolding sub add neg
 difference f nan y s t a b c D h k = absurd h
 difference f (inf z) y s t a b c D h k = absurd h
@@ -122,24 +127,33 @@ quotient f (fin false m e) (fin false n d) a b c C B h k =
 -- ---- the step
 
 exactly : {n : ℕ} → Double n → Units (round binary64 false n (2 ^ 1074)) false n
-exactly {n} d = round-exact binary64 false n (2 ^ 1074) (d .digits) (d .zeros) (pow-pos 1074) (d .few) (subst (λ (x : ℕ). x < 2 ^ 2098) (d .is) (d .small)) (ap (λ (x : ℕ). x * 2 ^ 1074) (d .is))
+exactly {n} d =
+    round-exact binary64 false n (2 ^ 1074) (d .digits) (d .zeros) (pow-pos 1074) (d .few) (subst (λ (x : ℕ). x < 2 ^ 2098) (d .is) (d .small))
+    (ap (λ (x : ℕ). x * 2 ^ 1074) (d .is))
 
 module _ (count : ℕ) (high low : Float) (step : ℕ) (x : Exact count high low step) where
   abbrev d : ℕ
   d = apart (x .high-sign) (x .high-size) (x .low-sign) (x .low-size)
 
   distance-is : Units (magnitude (sub binary64 high low)) false d
-  distance-is = subst (λ (v : Float). Units v false d) (sym (difference binary64 high low (x .high-sign) (x .low-sign) (x .high-size) (x .low-size) (2 ^ 1074) (pow-pos 1074) (x .high-is) (x .low-is))) (exactly (x .distance))
+  distance-is =
+      subst (λ (v : Float). Units v false d)
+      (sym (difference binary64 high low (x .high-sign) (x .low-sign) (x .high-size) (x .low-size) (2 ^ 1074) (pow-pos 1074) (x .high-is)
+      (x .low-is))) (exactly (x .distance))
 
   gaps-is : HasValue (sub binary64 (ofInt binary64 (pos count)) oneFloat) false (count - 1) 1
   unfolding ofInt
-  gaps-is = subst (λ (v : Float). HasValue v false (count - 1) 1) (sym (lowered binary64 (round binary64 false count 1) oneFloat count 1 1 (lit< tt) (omega (arith, x .many)) (round-whole binary64 false count (x .few)) (refl, refl))) (round-whole binary64 false (count - 1) (omega (arith, x .few)))
+  gaps-is =
+      subst (λ (v : Float). HasValue v false (count - 1) 1)
+      (sym (lowered binary64 (round binary64 false count 1) oneFloat count 1 1 (lit< tt) (omega (arith, x .many))
+      (round-whole binary64 false count (x .few)) (refl, refl))) (round-whole binary64 false (count - 1) (omega (arith, x .few)))
 
   pub exact-step : Units (div binary64 (magnitude (sub binary64 high low)) (sub binary64 (ofInt binary64 (pos count)) oneFloat)) false step
   exact-step =
       let g : 0 < count - 1 = omega (arith, x .many) in
       subst (λ (v : Float). Units v false step)
-      (sym (quotient binary64 (magnitude (sub binary64 high low)) (sub binary64 (ofInt binary64 (pos count)) oneFloat) d (count - 1) (2 ^ 1074) (pow-pos 1074) g distance-is gaps-is
+      (sym (quotient binary64 (magnitude (sub binary64 high low)) (sub binary64 (ofInt binary64 (pos count)) oneFloat) d (count - 1) (2 ^ 1074)
+      (pow-pos 1074) g distance-is gaps-is
       ∙ round-same binary64 false d (2 ^ 1074 * (count - 1)) step (2 ^ 1074) (mul-pos (pow-pos 1074) g) (pow-pos 1074)
       (ap (λ (z : ℕ). z * 2 ^ 1074) (sym (x .divided)) ∙ mul-assoc step (count - 1) (2 ^ 1074) ∙ ap (λ (z : ℕ). step * z) (mul-comm (count - 1) (2 ^ 1074)))))
       (exactly (x .double))

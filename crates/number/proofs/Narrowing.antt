@@ -3,7 +3,8 @@ use mathlib.Core.Path.{_≡_, refl, sym, ap, _∙_, subst}
 use mathlib.Core.Logic.{_⊎_, inl, inr}
 use mathlib.Core.Bool.{Bool, true, false, not, cond}
 use Prim.Native.Nat.{ℕ, zero, suc, _+_, _-_, _*_, _/_, _%_, _^_, _≤_, _<_, compare}
-use native.Mathlib.Nat.{le-trans, le-of-eq, lt-of-lt-of-le, lt-of-le-of-lt, mul-one, mul-assoc, mul-comm, mul-right-comm, mul-pos, mul-le-mul-left, mul-le-mul-right, mul-lt-mul-of-pos-right, le-div-iff-mul-le, div-lt-iff-lt-mul, one-mul, mul-left-comm, zero-add}
+use native.Mathlib.Nat.{le-trans, le-of-eq, lt-of-lt-of-le, lt-of-le-of-lt, mul-one, mul-assoc, mul-comm, mul-right-comm, mul-pos, mul-le-mul-left}
+use native.Mathlib.Nat.{mul-le-mul-right, mul-lt-mul-of-pos-right, le-div-iff-mul-le, div-lt-iff-lt-mul, one-mul, mul-left-comm, zero-add}
 use native.Mathlib.Omega.{arith}
 use lib.Dec.{T, ltb, ltb→lt, nltb→le, lit≤, lit<}
 use lib.Arith.{le-zero}
@@ -36,16 +37,21 @@ module _ (s : Bool) (q : ℕ) (hi : q < 2 ^ 53) where
       let n = q * 2 ^ j * 2 ^ 149 in
       let d = 2 ^ 178 in
       let low : 2 ^ (23 + j) * d ≤ n =
-      le-trans (le-of-eq (ap (λ (x : ℕ). x * d) (pow-add 2 23 j) ∙ exchange (2 ^ 23) (2 ^ j) d (2 ^ 52) (2 ^ 149) refl)) (mul-le-mul-right (2 ^ 149) (mul-le-mul-right (2 ^ j) lo)) in
+      le-trans (le-of-eq (ap (λ (x : ℕ). x * d) (pow-add 2 23 j) ∙ exchange (2 ^ 23) (2 ^ j) d (2 ^ 52) (2 ^ 149) refl))
+      (mul-le-mul-right (2 ^ 149) (mul-le-mul-right (2 ^ j) lo)) in
       let high : n < 2 ^ (24 + j) * d =
-      lt-of-lt-of-le (mul-lt-mul-of-pos-right (mul-lt-mul-of-pos-right hi (pow-pos j)) (pow-pos 149)) (le-of-eq (sym (ap (λ (x : ℕ). x * d) (pow-add 2 24 j) ∙ exchange (2 ^ 24) (2 ^ j) d (2 ^ 53) (2 ^ 149) refl))) in
+      lt-of-lt-of-le (mul-lt-mul-of-pos-right (mul-lt-mul-of-pos-right hi (pow-pos j)) (pow-pos 149))
+      (le-of-eq (sym (ap (λ (x : ℕ). x * d) (pow-add 2 24 j) ∙ exchange (2 ^ 24) (2 ^ j) d (2 ^ 53) (2 ^ 149) refl))) in
       let drop : size (n / d) - 24 ≡ j =
-      ap (λ (x : ℕ). x - 24) (size-is (n / d) (23 + j) (24 + j) (one j) (le-div-iff-mul-le (pow-pos 178) .1 low) (div-lt-iff-lt-mul (pow-pos 178) .1 high)) ∙ back j in
-      round-same binary32 s (q * 2 ^ (896 + j)) (2 ^ 1074) (q * 2 ^ j) d (pow-pos 1074) (pow-pos 178) (ap (λ (x : ℕ). q * x * d) (pow-add 2 896 j) ∙ pull q (2 ^ 896) (2 ^ j) d)
+      ap (λ (x : ℕ). x - 24)
+      (size-is (n / d) (23 + j) (24 + j) (one j) (le-div-iff-mul-le (pow-pos 178) .1 low) (div-lt-iff-lt-mul (pow-pos 178) .1 high)) ∙ back j in
+      round-same binary32 s (q * 2 ^ (896 + j)) (2 ^ 1074) (q * 2 ^ j) d (pow-pos 1074) (pow-pos 178)
+      (ap (λ (x : ℕ). q * x * d) (pow-add 2 896 j) ∙ pull q (2 ^ 896) (2 ^ j) d)
       ∙ round-is binary32 s (q * 2 ^ j) d
       ∙ ap (λ (k : ℕ). units binary32 s (closest n (d * 2 ^ k)) k) drop
       ∙ ap (λ (x : ℕ). units binary32 s x j)
-      (closest-same n (d * 2 ^ j) q (2 ^ 29) (mul-pos (pow-pos 178) (pow-pos j)) (pow-pos 29) (mul-assoc (q * 2 ^ j) (2 ^ 149) (2 ^ 29) ∙ mul-assoc q (2 ^ j) d ∙ ap (λ (x : ℕ). q * x) (mul-comm (2 ^ j) d)))
+      (closest-same n (d * 2 ^ j) q (2 ^ 29) (mul-pos (pow-pos 178) (pow-pos j)) (pow-pos 29)
+      (mul-assoc (q * 2 ^ j) (2 ^ 149) (2 ^ 29) ∙ mul-assoc q (2 ^ j) d ∙ ap (λ (x : ℕ). q * x) (mul-comm (2 ^ j) d)))
     where
       one : (j : ℕ) → 24 + j ≡ suc (23 + j)
       one j = omega arith
@@ -62,7 +68,10 @@ module _ (s : Bool) (q : ℕ) (hi : q < 2 ^ 53) where
       lt-of-lt-of-le (mul-lt-mul-of-pos-right (lt-of-lt-of-le (shl-lt 53 k hi) (pow-mono {i = 53 + k} {j = 948} (more k h))) (pow-pos 149)) (lit≤ tt) in
       let drop : size (n / d) - 24 ≡ 0 = none (size (n / d)) (size-le (n / d) 24 (div-lt-iff-lt-mul (pow-pos 1074) .1 high)) in
       let w : n * 2 ^ (925 - k) ≡ q * d =
-      mul-right-comm (q * 2 ^ k) (2 ^ 149) (2 ^ (925 - k)) ∙ ap (λ (x : ℕ). x * 2 ^ 149) (mul-assoc q (2 ^ k) (2 ^ (925 - k)) ∙ ap (λ (x : ℕ). q * x) (sym (pow-add 2 k (925 - k)) ∙ ap (λ (x : ℕ). 2 ^ x) (join k h))) ∙ mul-assoc q (2 ^ 925) (2 ^ 149) in
+      mul-right-comm (q * 2 ^ k) (2 ^ 149) (2 ^ (925 - k))
+      ∙ ap (λ (x : ℕ). x * 2 ^ 149)
+      (mul-assoc q (2 ^ k) (2 ^ (925 - k)) ∙ ap (λ (x : ℕ). q * x) (sym (pow-add 2 k (925 - k)) ∙ ap (λ (x : ℕ). 2 ^ x) (join k h)))
+      ∙ mul-assoc q (2 ^ 925) (2 ^ 149) in
       round-is binary32 s (q * 2 ^ k) d
       ∙ ap (λ (k : ℕ). units binary32 s (closest n (d * 2 ^ k)) k) drop
       ∙ ap (λ (x : ℕ). units binary32 s x 0) (closest-same n (d * 2 ^ 0) q (2 ^ (925 - k)) (pow-pos 1074) (pow-pos (925 - k)) w)
@@ -117,7 +126,8 @@ module _ (j q : ℕ) (lo : 2 ^ 23 ≤ q) (hi : q ≤ 2 ^ 24) where
 
   over-top : 2139095040 ≤ j * 8388608 + q → 2 ^ 277 ≤ q * 2 ^ j
   over-top h = elim (split j 254) [
-    | inl l ↦ let large : 2 ^ 24 ≤ q = omega arith in le-trans (pow-mono {i = 277} {j = 24 + j} (omega arith)) (le-trans (le-of-eq (pow-add 2 24 j)) (mul-le-mul-right (2 ^ j) large))
+    | inl l ↦ let large : 2 ^ 24 ≤ q = omega arith in
+        le-trans (pow-mono {i = 277} {j = 24 + j} (omega arith)) (le-trans (le-of-eq (pow-add 2 24 j)) (mul-le-mul-right (2 ^ j) large))
     | inr g ↦ le-trans (pow-mono {i = 277} {j = 23 + j} (omega arith)) (le-trans (le-of-eq (pow-add 2 23 j)) (mul-le-mul-right (2 ^ j) lo))
   ]
 
@@ -139,7 +149,8 @@ module _ (v : Float) (s : Bool) (q : ℕ) (hi : q < 2 ^ 53) where
       let r = closest q (2 ^ (925 - k)) in
       let small : r ≤ 2 ^ 24 = closest-less s q hi (925 - k) (room k l) in
       ap (λ (x : ℕ). ofBits binary32 (cond s 0x8000_0000 0 + x)) (sym (zero-add r))
-      ∙ rounded-bits binary32 s (q * 2 ^ k) (2 ^ 1074) r 0 (round-low s q hi k l) small (inl refl) (lt-of-le-of-lt (le-trans (le-of-eq (mul-one r)) small) (pow-lt {i = 24} {j = 277} (lit< tt)))
+      ∙ rounded-bits binary32 s (q * 2 ^ k) (2 ^ 1074) r 0 (round-low s q hi k l) small (inl refl)
+      (lt-of-le-of-lt (le-trans (le-of-eq (mul-one r)) small) (pow-lt {i = 24} {j = 277} (lit< tt)))
       ∙ sym (narrow-is v s (q * 2 ^ k) (2 ^ 1074) (pow-pos 1074) h)
     where
       room : (k : ℕ) → k ≤ 895 → 29 ≤ 925 - k
@@ -148,7 +159,8 @@ module _ (v : Float) (s : Bool) (q : ℕ) (hi : q < 2 ^ 53) where
   module _ (j : ℕ) (h : HasValue v s (q * 2 ^ (896 + j)) (2 ^ 1074)) (lo : 2 ^ 52 ≤ q) where
     mid-bits : j * 8388608 + closest q (2 ^ 29) < 2139095040 → ofBits binary32 (cond s 0x8000_0000 0 + (j * 8388608 + closest q (2 ^ 29))) ≡ narrow v
     mid-bits p =
-        rounded-bits binary32 s (q * 2 ^ (896 + j)) (2 ^ 1074) (closest q (2 ^ 29)) j (round-mid s q hi j lo) (closest-le s q hi) (inr (closest-ge s q hi lo)) (under-top j (closest q (2 ^ 29)) (closest-ge s q hi lo) (closest-le s q hi) p)
+        rounded-bits binary32 s (q * 2 ^ (896 + j)) (2 ^ 1074) (closest q (2 ^ 29)) j (round-mid s q hi j lo) (closest-le s q hi)
+        (inr (closest-ge s q hi lo)) (under-top j (closest q (2 ^ 29)) (closest-ge s q hi lo) (closest-le s q hi) p)
         ∙ sym (narrow-is v s (q * 2 ^ (896 + j)) (2 ^ 1074) (pow-pos 1074) h)
 
     over-bits : 2139095040 ≤ j * 8388608 + closest q (2 ^ 29) → ofBits binary32 (cond s 0x8000_0000 0 + 2139095040) ≡ narrow v
@@ -171,14 +183,23 @@ module _ (x t : ℕ) (D : t < 2 ^ 52) where
   q-lo = omega arith
 
   pub inf-fields : x ≡ 2047 → t ≡ 0 → Narrowed x t 0x7f80_0000
-  inf-fields e z = record { small = lit< tt; is = λ s. infinity s ∙ is s ∙ sym (ap (λ (k : ℕ). narrow (ofFields binary64 s k t)) e ∙ ap (λ (k : ℕ). narrow (ofFields binary64 s 2047 k)) z) }
+  inf-fields e z =
+      record {
+        small = lit< tt;
+        is = λ s. infinity s ∙ is s ∙ sym (ap (λ (k : ℕ). narrow (ofFields binary64 s k t)) e ∙ ap (λ (k : ℕ). narrow (ofFields binary64 s 2047 k)) z);
+      }
     where
       is : (s : Bool) → inf s ≡ narrow (ofFields binary64 s 2047 0)
       is s = unfold ofFields narrow in refl
 
   pub nan-fields : x ≡ 2047 → (t ≡ 0 → ⊥) → Narrowed x t 0x7fc0_0000
   unfolding ofFields narrow
-  nan-fields e z = record { small = lit< tt; is = λ s. no-number s ∙ sym (ap (λ (k : ℕ). narrow (ofFields binary64 s k t)) e ∙ ap (λ (b : Bool). narrow (cond b (inf s) nan)) (ne-eqb t 0 z)) }
+  nan-fields e z =
+      record {
+        small = lit< tt;
+        is =
+            λ s. no-number s ∙ sym (ap (λ (k : ℕ). narrow (ofFields binary64 s k t)) e ∙ ap (λ (b : Bool). narrow (cond b (inf s) nan)) (ne-eqb t 0 z));
+      }
 
   pub low-fields : 1 ≤ x → x < 897 → Narrowed x t (closest q (2 ^ (926 - x)))
   low-fields lo hi =
@@ -186,7 +207,9 @@ module _ (x t : ℕ) (D : t < 2 ^ 52) where
       let e : 925 - k ≡ 926 - x = omega arith in
       record {
         small = lt-of-le-of-lt (closest-less true q q-hi (926 - x) (omega arith)) (pow-lt {i = 24} {j = 31} (lit< tt));
-        is = λ s. ap (λ (n : ℕ). ofBits binary32 (cond s 0x8000_0000 0 + closest q (2 ^ n))) (sym e) ∙ low-bits (ofFields binary64 s x t) s q q-hi k (normal binary64 s x k t (omega arith) (omega arith)) (omega arith);
+        is =
+            λ s. ap (λ (n : ℕ). ofBits binary32 (cond s 0x8000_0000 0 + closest q (2 ^ n))) (sym e)
+            ∙ low-bits (ofFields binary64 s x t) s q q-hi k (normal binary64 s x k t (omega arith) (omega arith)) (omega arith);
       }
 
   module _ (lo : 897 ≤ x) (hi : x < 2047) where
@@ -202,7 +225,12 @@ module _ (x t : ℕ) (D : t < 2 ^ 52) where
 pub tiny-fields : (x t : ℕ) → t < 2 ^ 52 → x < 871 → Narrowed x t 0
 tiny-fields zero t D h =
     let small : t < 2 ^ 53 = omega arith in
-    record { small = lit< tt; is = λ s. ap (λ (r : ℕ). ofBits binary32 (cond s 0x8000_0000 0 + r)) (sym (closest-none s t small 925 (lit≤ tt))) ∙ low-bits (ofFields binary64 s 0 t) s t small 0 (at-zero binary64 s t) (lit≤ tt) }
+    record {
+      small = lit< tt;
+      is =
+          λ s. ap (λ (r : ℕ). ofBits binary32 (cond s 0x8000_0000 0 + r)) (sym (closest-none s t small 925 (lit≤ tt)))
+          ∙ low-bits (ofFields binary64 s 0 t) s t small 0 (at-zero binary64 s t) (lit≤ tt);
+    }
 tiny-fields (suc k) t D h =
     let one : 1 ≤ suc k = omega arith in
     let l : suc k < 897 = omega arith in

@@ -57,7 +57,8 @@ unfolding ofFields magnitude
 fields-clear f s zero t = odd-clear (prec f) s t 0 (low f)
 fields-clear f s (suc x) t = go (eqb (suc x) (ones f)) (eqb t 0)
   where
-    go : (a b : Bool) → cond a (cond b (inf false) nan) (odd (prec f) false (hid f + t) x (low f)) ≡ magnitude (cond a (cond b (inf s) nan) (odd (prec f) s (hid f + t) x (low f)))
+    go : (a b : Bool) → cond a (cond b (inf false) nan) (odd (prec f) false (hid f + t) x (low f))
+        ≡ magnitude (cond a (cond b (inf s) nan) (odd (prec f) s (hid f + t) x (low f)))
     go true true = refl
     go true false = refl
     go false b = odd-clear (prec f) s (hid f + t) x (low f)
@@ -86,7 +87,9 @@ under-ones f s x t h =
     (odd-sign (prec f) s (hid f + t) x (low f))
 
 pub normal : (f : Format) (s : Bool) (x k t : ℕ) → x ≡ suc k → x < ones f → HasValue (ofFields f s x t) s ((hid f + t) * 2 ^ k) (2 ^ low f)
-normal f s x k t e h = subst (λ (z : ℕ). HasValue (ofFields f s z t) s ((hid f + t) * 2 ^ k) (2 ^ low f)) (sym e) (under-ones f s k t (subst (λ (z : ℕ). z < ones f) e h))
+normal f s x k t e h =
+    subst (λ (z : ℕ). HasValue (ofFields f s z t) s ((hid f + t) * 2 ^ k) (2 ^ low f)) (sym e)
+    (under-ones f s k t (subst (λ (z : ℕ). z < ones f) e h))
 
 pub infinite : (f : Format) (s : Bool) (x t : ℕ) → x ≡ ones f → t ≡ 0 → ofFields f s x t ≡ inf s
 unfolding ofFields

@@ -62,7 +62,8 @@ module _ (s : List ℕ) (room : ℕ) (r : Range) (map : List MapEntry) where
   at name = given (offsetOf (dataIn s r) name map)
 
   after-run : (a : Attributes) (es : List Entry) (i : ℕ) (ls : List Loop)
-      → refuseIf (ltb most64 (planeBytes a)) why.frameShape (andThen (calibration s (dataIn s r) map room (zFloat (zStep mostDepth s es i))) λ c. given (summaryOf r a ls c))
+      → refuseIf (ltb most64 (planeBytes a)) why.frameShape
+      (andThen (calibration s (dataIn s r) map room (zFloat (zStep mostDepth s es i))) λ c. given (summaryOf r a ls c))
       ≡ afterRun s room r (at (ascii "ImageCalibrationLV|0!")) a (record { loops = ls; step = zStep mostDepth s es i })
   unfolding afterRun calibration
   after-run a es i ls = rw (under-listed s room (ascii "ImageCalibrationLV|0!") (dataIn s r) map) refl
@@ -94,16 +95,20 @@ module _ (s : List ℕ) (room : ℕ) where
   map-refused q = stops (mapRange s) _ (sym q)
 
   module _ (r : Range) (q : given r ≡ mapRange s) where
-    map-read : opened s room ≡ afterMap s room r (findIn (dataIn s r) (ascii "ImageAttributesLV!")) (findIn (dataIn s r) (ascii "ImageMetadataLV!")) (findIn (dataIn s r) (ascii "ImageCalibrationLV|0!"))
+    map-read : opened s room
+        ≡ afterMap s room r (findIn (dataIn s r) (ascii "ImageAttributesLV!")) (findIn (dataIn s r) (ascii "ImageMetadataLV!"))
+        (findIn (dataIn s r) (ascii "ImageCalibrationLV|0!"))
     unfolding opened findIn
     map-read = go-on (mapRange s) _ r (sym q) (go (mapEntries (dataIn s r)))
       where
         go : (x : Answer (List MapEntry)) → let found : List ℕ → Answer (Option ℕ) = λ name. andThen x λ es. given (offsetOf (dataIn s r) name es) in
-            andThen x (listed s room r) ≡ afterMap s room r (found (ascii "ImageAttributesLV!")) (found (ascii "ImageMetadataLV!")) (found (ascii "ImageCalibrationLV|0!"))
+            andThen x (listed s room r)
+            ≡ afterMap s room r (found (ascii "ImageAttributesLV!")) (found (ascii "ImageMetadataLV!")) (found (ascii "ImageCalibrationLV|0!"))
         go (refused n) = unfold andThen afterMap treeUnder in refl
         go (given es) = unfold andThen in after-map s room r es
 
     -- with what was looked up in the map's data d
-    pub map-looked : {d : List ℕ} {x y z : Answer (Option ℕ)} → d ≡ dataIn s r → x ≡ findIn d (ascii "ImageAttributesLV!") → y ≡ findIn d (ascii "ImageMetadataLV!") → z ≡ findIn d (ascii "ImageCalibrationLV|0!")
+    pub map-looked : {d : List ℕ} {x y z : Answer (Option ℕ)} → d ≡ dataIn s r → x ≡ findIn d (ascii "ImageAttributesLV!")
+        → y ≡ findIn d (ascii "ImageMetadataLV!") → z ≡ findIn d (ascii "ImageCalibrationLV|0!")
         → opened s room ≡ afterMap s room r x y z
     map-looked e f g h = rw (f, g, h, e) map-read

@@ -28,7 +28,8 @@ module _ (s t : List ℕ) where
 
   abbrev Promised : Opened → List ℕ → Type 0
   Promised r out =
-      (r .number ≡ openCall s t .number) × ((r .summary ≡ openCall s t .summary) × ((out ≡ openCall s t .table) × ((out ≡ zeros (length t)) × Sentences (r .number) (r .summary))))
+      (r .number ≡ openCall s t .number)
+      × ((r .summary ≡ openCall s t .summary) × ((out ≡ openCall s t .table) × ((out ≡ zeros (length t)) × Sentences (r .number) (r .summary))))
 
   different : openCall s t .number ≡ 0 → Different (loopsOf (openCall s t .summary))
   different e = third .frames-different s (openCall s t .summary) (third .opened-sound s t e)

@@ -42,7 +42,8 @@ module _ (s : List ℕ) (es : List Entry) (r : Recorded) where
   unfolding runIn andThen orRefuse
   run i q t z = rw q (go (experiment s es i) t)
     where
-      go : (x : Answer (List Loop)) → kept.Tells (r .number) (r .loops) (r .depth) x → Tells r (andThen x λ ls. given (record { loops = ls; step = zStep mostDepth s es i }))
+      go : (x : Answer (List Loop)) → kept.Tells (r .number) (r .loops) (r .depth) x
+          → Tells r (andThen x λ ls. given (record { loops = ls; step = zStep mostDepth s es i }))
       go (given ls) (kept.accepted a b c) = accepted a b c z
       go (refused n) (kept.turned a h) = turned a h
 

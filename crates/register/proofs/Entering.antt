@@ -44,15 +44,18 @@ module _ (m : List ℕ) (at n count : ℕ) (few : count < 2 ^ 64) (buf : List �
 
     module _ (h : k < count) where
       placed : (ls : List Loop) (b : List ℕ)
-          → sets (over (registerFrom count m es ls 0) b) (24 * k + 12) (leBytes 4 0 ++ leBytes 8 (leAt 8 m (at + n))) ≡ over (registerFrom count m (es ++ e ∷ []) ls 0) b
+          → sets (over (registerFrom count m es ls 0) b) (24 * k + 12) (leBytes 4 0 ++ leBytes 8 (leAt 8 m (at + n)))
+          ≡ over (registerFrom count m (es ++ e ∷ []) ls 0) b
       unfolding over placeBytes
       placed ls b =
           let l₁ : length (registerFrom count m es ls 0) ≡ 24 * count = register-length m es ls count 0 in
           let l₂ : length (registerFrom count m (es ++ e ∷ []) ls 0) ≡ 24 * count = register-length m (es ++ e ∷ []) ls count 0 in
           rw (l₁, l₂)
-          (register-stored m es ls e count 0 k (drop (24 * count) b) h (rw zero-add (true-same _ _ (x .0))) λ i _ l f. false-same _ _ λ q. f (the-frame i (omega arith) q ∙ sym (zero-add k)))
+          (register-stored m es ls e count 0 k (drop (24 * count) b) h (rw zero-add (true-same _ _ (x .0)))
+          λ i _ l f. false-same _ _ λ q. f (the-frame i (omega arith) q ∙ sym (zero-add k)))
 
-      pub of-frame : {o : ℕ} {out : List ℕ} → o ≡ leAt 8 m (at + n) → out ≡ sets buf (24 * k + 12) (leBytes 4 0 ++ leBytes 8 o) → Taken m count es (es ++ e ∷ []) buf out
+      pub of-frame : {o : ℕ} {out : List ℕ} → o ≡ leAt 8 m (at + n) → out ≡ sets buf (24 * k + 12) (leBytes 4 0 ++ leBytes 8 o)
+          → Taken m count es (es ++ e ∷ []) buf out
       of-frame p q = record { taken = λ ls b r. q ∙ rw (p, r) (placed ls b) }
 
 -- ---- all of them
@@ -83,7 +86,8 @@ pass-start m count buf =
     by (given es) = refl
 
 module _ {m : List ℕ} {count : ℕ} {buf : List ℕ} {at entries : ℕ} {out : List ℕ} (h : Passed m count buf at entries out) where
-  pub pass-on : {n : ℕ} {next : List ℕ} → Entry m at entries n → ((es : List MapEntry) → Taken m count es (es ++ entryAt m at n ∷ []) out next) → length next ≡ length out
+  pub pass-on : {n : ℕ} {next : List ℕ} → Entry m at entries n → ((es : List MapEntry) → Taken m count es (es ++ entryAt m at n ∷ []) out next)
+      → length next ≡ length out
       → Passed m count buf (at + n + 16) (entries + 1) next
   unfolding andThen prepend
   pass-on {n} {next} e f l =

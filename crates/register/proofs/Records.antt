@@ -26,7 +26,8 @@ pub stored-place : (l : List ℕ) (i state offset : ℕ) {m r : List ℕ} → m 
 stored-place l i state offset e f = stored-two l (leBytes 4 state) (leBytes 8 offset) i 4 (leBytes-length 4 state) e f
 
 -- three numbers and the bytes ys
-stored-parts : (l ys : List ℕ) (i p t z : ℕ) {a b c r : List ℕ} → a ≡ sets l i (leBytes 4 p) → b ≡ sets a (i + 4) (leBytes 4 t) → c ≡ sets b (i + 8) (leBytes 4 z)
+stored-parts : (l ys : List ℕ) (i p t z : ℕ) {a b c r : List ℕ} → a ≡ sets l i (leBytes 4 p) → b ≡ sets a (i + 4) (leBytes 4 t)
+    → c ≡ sets b (i + 8) (leBytes 4 z)
     → r ≡ sets c (i + 12) ys → r ≡ sets l i (leBytes 4 p ++ leBytes 4 t ++ leBytes 4 z ++ ys)
 stored-parts l ys i p t z e₁ e₂ e₃ e₄ =
     let q = leBytes 4 p in
@@ -38,15 +39,18 @@ stored-parts l ys i p t z e₁ e₂ e₃ e₄ =
 
 -- the record of a frame that the map has not
 module _ (m : List ℕ) (ls : List Loop) (n : ℕ) where
-  pub stored-record : (l : List ℕ) (i : ℕ) {p t z : ℕ} → p ≡ indexAt P n ls → t ≡ indexAt T n ls → z ≡ indexAt Z n ls → {a b c r : List ℕ} → a ≡ sets l i (leBytes 4 p)
-      → b ≡ sets a (i + 4) (leBytes 4 t) → c ≡ sets b (i + 8) (leBytes 4 z) → r ≡ sets c (i + 12) (leBytes 4 1 ++ leBytes 8 0) → r ≡ sets l i (frameRecord m [] ls n)
+  pub stored-record : (l : List ℕ) (i : ℕ) {p t z : ℕ} → p ≡ indexAt P n ls → t ≡ indexAt T n ls → z ≡ indexAt Z n ls → {a b c r : List ℕ}
+      → a ≡ sets l i (leBytes 4 p)
+      → b ≡ sets a (i + 4) (leBytes 4 t) → c ≡ sets b (i + 8) (leBytes 4 z) → r ≡ sets c (i + 12) (leBytes 4 1 ++ leBytes 8 0)
+      → r ≡ sets l i (frameRecord m [] ls n)
   unfolding frameRecord placeBytes offsetOf
   stored-record l i {p} {t} {z} ep et ez e₁ e₂ e₃ e₄ =
       let ys = leBytes 4 1 ++ leBytes 8 0 in
       stored-parts l ys i p t z e₁ e₂ e₃ e₄ ∙ rw (ep, et, ez) refl
 
   -- behind those of the n frames before it
-  pub record-more : (l b r : List ℕ) (i : ℕ) → i ≡ 24 * n → 24 * n + 24 ≤ length l → b ≡ over (registerFrom n m [] ls 0) l → r ≡ sets b i (frameRecord m [] ls n)
+  pub record-more : (l b r : List ℕ) (i : ℕ) → i ≡ 24 * n → 24 * n + 24 ≤ length l → b ≡ over (registerFrom n m [] ls 0) l
+      → r ≡ sets b i (frameRecord m [] ls n)
       → r ≡ over (registerFrom (n + 1) m [] ls 0) l
   record-more l b r i k h e f =
       let x = registerFrom n m [] ls 0 in

@@ -153,7 +153,8 @@ module _ (s : List ℕ) (u : Summary) (buf : List ℕ) where
       by (refused k) p = (p, refl)
       by (given es) p = absurd (f p)
 
-  made : (g : Ready s u (length buf)) {out : List ℕ} → out ≡ over (registerFrom (frames (loopsOf u)) (mapOf s u) (g .entries) (loopsOf u) 0) buf → Promised 0 out
+  made : (g : Ready s u (length buf)) {out : List ℕ} → out ≡ over (registerFrom (frames (loopsOf u)) (mapOf s u) (g .entries) (loopsOf u) 0) buf
+      → Promised 0 out
   unfolding registerCall registerBy
   made g e = let q = g .all in promised (rw q refl) (e ∙ rw q refl)
 

@@ -20,7 +20,8 @@ halves-append [] ys = refl
 halves-append (x ∷ xs) ys = rw (halves-append xs ys) refl
 
 pub sum-more : (sum a r : ℕ) (xs ys : List ℕ) → a ≡ checksum sum (halves xs) → r ≡ checksum a (halves ys) → r ≡ checksum sum (halves (xs ++ ys))
-sum-more sum a r xs ys h k = k ∙ ap (λ (x : ℕ). checksum x (halves ys)) h ∙ sym (checksum-append sum (halves xs) (halves ys)) ∙ ap (checksum sum) (sym (halves-append xs ys))
+sum-more sum a r xs ys h k =
+    k ∙ ap (λ (x : ℕ). checksum x (halves ys)) h ∙ sym (checksum-append sum (halves xs) (halves ys)) ∙ ap (checksum sum) (sym (halves-append xs ys))
 
 -- ---- byte by byte
 

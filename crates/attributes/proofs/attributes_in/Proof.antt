@@ -13,10 +13,17 @@ use Rattle.attributes.proofs.attributes_in.Tie as tie
 
 -- the level's attributes, after the five numbers
 readings : (c : tie.After-five)
-    → let a = c .before .before .before .before .before .before .before .before .before .before .before .before .before .before .before .before .before .args in attributesIn (a .file .now) (entriesIn (a .table .now) (a .used)) (a .parent) ≡ andThen (answer (c .five .result)) (judgedBy (c .before .is-plain .result))
+    → let a = c .before .before .before .before .before .before .before .before .before .before .before .before .before .before .before .before .before .args in
+    attributesIn (a .file .now) (entriesIn (a .table .now) (a .used)) (a .parent)
+    ≡ andThen (answer (c .five .result)) (judgedBy (c .before .is-plain .result))
 unfolding ascii
 readings c =
-    of-readings _ _ _ _ _ _ _ _ _ _ (c .before .before .before .before .before .before .before .before .before .before .before .before .before .get-u64 .ensures) (c .before .before .before .before .before .before .before .before .before .before .before .get-u642 .ensures) (c .before .before .before .before .before .before .before .before .before .get-u643 .ensures) (c .before .before .before .before .before .before .before .get-u644 .ensures) (c .before .before .before .before .to-u32 .ensures ∙ ap below32 (c .before .before .before .before .before .get-u645 .ensures))
+    of-readings _ _ _ _ _ _ _ _ _ _
+    (c .before .before .before .before .before .before .before .before .before .before .before .before .before .get-u64 .ensures)
+    (c .before .before .before .before .before .before .before .before .before .before .before .get-u642 .ensures)
+    (c .before .before .before .before .before .before .before .before .before .get-u643 .ensures)
+    (c .before .before .before .before .before .before .before .get-u644 .ensures)
+    (c .before .before .before .before .to-u32 .ensures ∙ ap below32 (c .before .before .before .before .before .get-u645 .ensures))
     (c .before .is-plain .ensures ∙ ap uncompressed (c .before .before .get-i64 .ensures)) (c .five .ensures)
 
 slice-aggregate-get-u64 : tie.Need-slice-aggregate-get-u64

@@ -44,7 +44,12 @@ enum-told-4 c = search needs
 
 returns-4 : tie.Need-returns-4
 unfolding fiveOf andThen orRefuse
-returns-4 c = rw (c .before .before .before .before .before .before .before .before .before .width .given .1, c .before .before .before .before .before .before .stride .given .1, c .before .before .before .height .given .1, c .enum-told4 .given .1) refl
+returns-4 c = rw (
+  c .before .before .before .before .before .before .before .before .before .width .given .1,
+  c .before .before .before .before .before .before .stride .given .1,
+  c .before .before .before .height .given .1,
+  c .enum-told4 .given .1,
+) refl
 
 enum-known-bits : tie.Need-enum-known-bits
 enum-known-bits c = search needs
@@ -54,11 +59,23 @@ enum-told-5 c = search needs
 
 returns-5 : tie.Need-returns-5
 unfolding fiveOf andThen orRefuse
-returns-5 c = rw (c .before .before .before .before .before .before .before .before .before .before .before .before .width .given .1, c .before .before .before .before .before .before .before .before .before .stride .given .1, c .before .before .before .before .before .before .height .given .1, c .before .before .before .components .given .1, c .enum-told5 .given .1) refl
+returns-5 c = rw (
+  c .before .before .before .before .before .before .before .before .before .before .before .before .width .given .1,
+  c .before .before .before .before .before .before .before .before .before .stride .given .1,
+  c .before .before .before .before .before .before .height .given .1,
+  c .before .before .before .components .given .1,
+  c .enum-told5 .given .1,
+) refl
 
 returns-6 : tie.Need-returns-6
 unfolding fiveOf andThen orRefuse
-returns-6 c = rw (c .before .before .before .before .before .before .before .before .before .before .before .before .before .width .given .1, c .before .before .before .before .before .before .before .before .before .before .stride .given .1, c .before .before .before .before .before .before .before .height .given .1, c .before .before .before .before .components .given .1, c .before .bits .given .1) refl
+returns-6 c = rw (
+  c .before .before .before .before .before .before .before .before .before .before .before .before .before .width .given .1,
+  c .before .before .before .before .before .before .before .before .before .before .stride .given .1,
+  c .before .before .before .before .before .before .before .height .given .1,
+  c .before .before .before .before .components .given .1,
+  c .before .bits .given .1,
+) refl
 
 pub five-spec : {M : Type 1} → statement M
 five-spec =

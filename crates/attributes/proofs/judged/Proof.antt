@@ -22,11 +22,19 @@ bad-shape-requires c κs = search needs
 
 returns-3 : tie.Need-returns-3
 unfolding judgedBy refuseIf
-returns-3 c = rw (c .before .before .before .before .if1 .left, sym (c .before .before .before .bad-bits .ensures) ∙ c .before .before .if2 .left, sym (c .before .bad-shape .ensures) ∙ c .if3 .taken) refl
+returns-3 c = rw (
+  c .before .before .before .before .if1 .left,
+  sym (c .before .before .before .bad-bits .ensures) ∙ c .before .before .if2 .left,
+  sym (c .before .bad-shape .ensures) ∙ c .if3 .taken,
+) refl
 
 returns-4 : tie.Need-returns-4
 unfolding judgedBy refuseIf
-returns-4 c = rw (c .before .before .before .before .if1 .left, sym (c .before .before .before .bad-bits .ensures) ∙ c .before .before .if2 .left, sym (c .before .bad-shape .ensures) ∙ c .if3 .left) refl
+returns-4 c = rw (
+  c .before .before .before .before .if1 .left,
+  sym (c .before .before .before .bad-bits .ensures) ∙ c .before .before .if2 .left,
+  sym (c .before .bad-shape .ensures) ∙ c .if3 .left,
+) refl
 
 pub judged-spec : {M : Type 1} → statement M
 judged-spec =

@@ -38,7 +38,9 @@ returns c = sym (in-level _ _ _ (sym (c .before .before .get-level .ensures .0) 
 
 returns-2 : tie.Need-returns-2
 unfolding andThen orRefuse found ascii
-returns-2 c = c .attributes-in .ensures ∙ sym (in-level _ _ _ (sym (c .before .before .before .before .get-level .ensures .0) ∙ ap found (c .before .before .i .given .1)))
+returns-2 c =
+    c .attributes-in .ensures
+    ∙ sym (in-level _ _ _ (sym (c .before .before .before .before .get-level .ensures .0) ∙ ap found (c .before .before .i .given .1)))
 
 pub parse-attributes-spec : {M : Type 1} → statement M
 parse-attributes-spec =

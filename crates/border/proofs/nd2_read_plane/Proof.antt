@@ -30,7 +30,8 @@ returns-2 c =
     let d = c .before .before in
     let l = d .before .before .before in
     let o = l .before .before .before .before .«open» in
-    opened-border _ _ _ _ _ _ _ (sym (o .ensures .0) ∙ l .if1 .left) (o .ensures .1 .0) (d .plane .ensures .0) (d .plane .ensures .1 .0) (o .ensures .1 .1 .1 .0)
+    opened-border _ _ _ _ _ _ _ (sym (o .ensures .0) ∙ l .if1 .left) (o .ensures .1 .0) (d .plane .ensures .0) (d .plane .ensures .1 .0)
+    (o .ensures .1 .1 .1 .0)
 
 pub nd2-read-plane-spec : {M : Type 1} → statement M
 nd2-read-plane-spec =

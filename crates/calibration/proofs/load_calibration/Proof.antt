@@ -33,10 +33,20 @@ sized-deep-requires : tie.Need-sized-deep-requires
 sized-deep-requires c κs = search needs
 
 returns-2 : tie.Need-returns-2
-returns-2 c = rw (← c .before .before .before .before .before .before .parse-calibration-um .ensures, c .before .before .before .before .size .given .1, c .before .enum-told2 .given .1) (c .sized-flat .ensures)
+returns-2 c =
+    rw (
+      ← c .before .before .before .before .before .before .parse-calibration-um .ensures,
+      c .before .before .before .before .size .given .1,
+      c .before .enum-told2 .given .1,
+    ) (c .sized-flat .ensures)
 
 returns-3 : tie.Need-returns-3
-returns-3 c = rw (← c .before .before .before .before .before .before .before .parse-calibration-um .ensures, c .before .before .before .before .before .size .given .1, c .before .before .z .given .1) (c .sized-deep .ensures)
+returns-3 c =
+    rw (
+      ← c .before .before .before .before .before .before .before .parse-calibration-um .ensures,
+      c .before .before .before .before .before .size .given .1,
+      c .before .before .z .given .1,
+    ) (c .sized-deep .ensures)
 
 pub load-calibration-spec : {M : Type 1} → statement M
 load-calibration-spec =

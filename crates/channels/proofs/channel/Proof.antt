@@ -26,7 +26,8 @@ returns c =
     let r = k .before .before in
     let p = r .before .before .before .before .before in
     let a = p .before .before .before .before .args in
-    one-record (now (a .file)) (a .u) (now (a .table)) (a .row) (a .i) (p .prepare .ensures) (e .0) (e .1 ∙ r .record-at .ensures) (e .2 ∙ ap zeros (p .prepare .kept .1 .1 .0))
+    one-record (now (a .file)) (a .u) (now (a .table)) (a .row) (a .i) (p .prepare .ensures) (e .0) (e .1 ∙ r .record-at .ensures)
+    (e .2 ∙ ap zeros (p .prepare .kept .1 .1 .0))
 
 pub channel-spec : {M : Type 1} → statement M
 channel-spec =

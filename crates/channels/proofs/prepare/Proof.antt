@@ -85,7 +85,8 @@ returns-4 c =
     let e = r .before .before in
     let d = e .before .before in
     let b = d .before in
-    ready-same (read-on _ _ _ _ (passed (b .before .before .before .before)) (looked b) (rw (d .if2 .left) at (b .is-broken .ensures)) (e .if3 .left)) (r .read-planes .ensures)
+    ready-same (read-on _ _ _ _ (passed (b .before .before .before .before)) (looked b) (rw (d .if2 .left) at (b .is-broken .ensures)) (e .if3 .left))
+    (r .read-planes .ensures)
 
 pub prepare-spec : {M : Type 1} → statement M
 prepare-spec =

@@ -45,8 +45,11 @@ returns-5 c =
     let l = c .before .before in
     let m = l .before in
     let o = m .before in
-    let f = o .before .le4 .ensures .0 in
-    (range-none _ (o .before .before .if1 .left) (λ e. o .if2 .left (f ∙ e)) (sym f ∙ m .if3 .left) (l .if4 .left) (sym (c .before .is-end .ensures) ∙ not-true _ (c .if5 .taken)), tt)
+    let f = o .before .le4 .ensures .0 in (
+      range-none _ (o .before .before .if1 .left) (λ e. o .if2 .left (f ∙ e)) (sym f ∙ m .if3 .left) (l .if4 .left)
+          (sym (c .before .is-end .ensures) ∙ not-true _ (c .if5 .taken)),
+      tt,
+    )
 
 sub-le8 : tie.Need-sub-le8
 sub-le8 c = search needs

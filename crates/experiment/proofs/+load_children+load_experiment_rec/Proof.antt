@@ -97,49 +97,67 @@ load-children-Inv-loop file table used nesting levels turn₀ kept₀ turn kept 
 abbrev load-children-μ-loop : load-children-lts.MeasureT-loop
 load-children-μ-loop file table used nesting levels turn₀ kept₀ turn kept = length (restOf file (entryIn table) used turn)
 
-load-children-loop-holds : (t : ℕ) → load-children-lts.Need-loop-holds (kids t) (load-children-at t) load-children.Post load-children-Inv-loop load-children-μ-loop
+load-children-loop-holds : (t : ℕ)
+    → load-children-lts.Need-loop-holds (kids t) (load-children-at t) load-children.Post load-children-Inv-loop load-children-μ-loop
 load-children-loop-holds t c = (c .before .before .pre .1 .1, on-first _ _ _ (c .before .before .pre .1 .3))
 
-load-children-next-child-requires : (t : ℕ) → load-children-lts.Need-next-child-requires (kids t) (load-children-at t) load-children.Post load-children-Inv-loop load-children-μ-loop
+load-children-next-child-requires : (t : ℕ)
+    → load-children-lts.Need-next-child-requires (kids t) (load-children-at t) load-children.Post load-children-Inv-loop load-children-μ-loop
 load-children-next-child-requires t c κs = (c .before .before .before .pre .1 .0, c .loop .inv .0)
 
-load-children-enum-told : (t : ℕ) → load-children-lts.Need-enum-told (kids t) (load-children-at t) load-children.Post load-children-Inv-loop load-children-μ-loop
+load-children-enum-told : (t : ℕ)
+    → load-children-lts.Need-enum-told (kids t) (load-children-at t) load-children.Post load-children-Inv-loop load-children-μ-loop
 load-children-enum-told t c = search needs
 
 load-children-returns : (t : ℕ) → load-children-lts.Need-returns (kids t) (load-children-at t) load-children.Post load-children-Inv-loop load-children-μ-loop
-load-children-returns t c bs s = on-end _ _ _ _ _ (c .before .before .before .loop .inv .1) _ (rw (c .enum-told .given .1) at (c .before .before .next-child .ensures)) refl refl bs s
+load-children-returns t c bs s =
+    on-end _ _ _ _ _ (c .before .before .before .loop .inv .1) _ (rw (c .enum-told .given .1) at (c .before .before .next-child .ensures)) refl refl
+    bs s
 
-load-children-enum-known-i : (t : ℕ) → load-children-lts.Need-enum-known-i (kids t) (load-children-at t) load-children.Post load-children-Inv-loop load-children-μ-loop
+load-children-enum-known-i : (t : ℕ)
+    → load-children-lts.Need-enum-known-i (kids t) (load-children-at t) load-children.Post load-children-Inv-loop load-children-μ-loop
 load-children-enum-known-i t c = search needs
 
 -- the next child level, and where the walk stands after it
 child : (t : ℕ) (c : load-children-lts.After-known-told (kids t) (load-children-at t) load-children.Post load-children-Inv-loop load-children-μ-loop)
     → let a = c .before .before .before .before .before .before .before .args in
-    NextOf (a .file .now) (entryIn (a .table .now)) (a .used) (restOf (a .file .now) (entryIn (a .table .now)) (a .used) (c .before .before .before .before .loop .turn))
+    NextOf (a .file .now) (entryIn (a .table .now)) (a .used)
+    (restOf (a .file .now) (entryIn (a .table .now)) (a .used) (c .before .before .before .before .loop .turn))
     (Child (c .before .i .given .0 .0) (c .before .i .given .0 .1 .0))
 child t c = rw (c .before .i .given .1) at (c .before .before .before .next-child .ensures)
 
-load-children-load-experiment-rec-requires : (t : ℕ) → load-children-lts.Need-load-experiment-rec-requires (kids t) (load-children-at t) load-children.Post load-children-Inv-loop load-children-μ-loop
+load-children-load-experiment-rec-requires : (t : ℕ)
+    → load-children-lts.Need-load-experiment-rec-requires (kids t) (load-children-at t) load-children.Post load-children-Inv-loop load-children-μ-loop
 load-children-load-experiment-rec-requires t c κs =
     let a = c .before .before .before .before .before .before .before in
     (omega (arith, a .pre .0), (a .pre .1 .0, child t c .0, a .pre .1 .2, c .before .before .before .before .loop .inv .1 .reached))
 
-load-children-returns-2 : (t : ℕ) → load-children-lts.Need-returns-2 (kids t) (load-children-at t) load-children.Post load-children-Inv-loop load-children-μ-loop
-load-children-returns-2 t c bs s = on-stopped _ _ _ _ _ (c .before .before .before .before .before .before .before .loop .inv .1) _ _ _ (child t (c .before .before .before) .2) (c .before .before .load-experiment-rec .ensures) (c .if1 .taken) bs s
+load-children-returns-2 : (t : ℕ)
+    → load-children-lts.Need-returns-2 (kids t) (load-children-at t) load-children.Post load-children-Inv-loop load-children-μ-loop
+load-children-returns-2 t c bs s =
+    on-stopped _ _ _ _ _ (c .before .before .before .before .before .before .before .loop .inv .1) _ _ _ (child t (c .before .before .before) .2)
+    (c .before .before .load-experiment-rec .ensures) (c .if1 .taken) bs s
 
-load-children-loop-less : (t : ℕ) → load-children-lts.Need-loop-less (kids t) (load-children-at t) load-children.Post load-children-Inv-loop load-children-μ-loop
+load-children-loop-less : (t : ℕ)
+    → load-children-lts.Need-loop-less (kids t) (load-children-at t) load-children.Post load-children-Inv-loop load-children-μ-loop
 load-children-loop-less t c = omega (arith, ap length (child t (c .before .before .before .before) .2))
 
-load-children-loop-again : (t : ℕ) → load-children-lts.Need-loop-again (kids t) (load-children-at t) load-children.Post load-children-Inv-loop load-children-μ-loop
+load-children-loop-again : (t : ℕ)
+    → load-children-lts.Need-loop-again (kids t) (load-children-at t) load-children.Post load-children-Inv-loop load-children-μ-loop
 load-children-loop-again t c =
     let d = c .before .before .before .before in
-    let a = d .before .before .before .before .before .before .before .args in
-    (child t d .1, on-more _ _ _ _ _ (d .before .before .before .before .loop .inv .1) _ _ _ (child t d .2) (c .before .before .before .load-experiment-rec .ensures) (λ cs. walk-some (a .levels) (a .file .now) (entriesIn (a .table .now) (a .used)) _ (a .nesting) cs) (c .before .if1 .left))
+    let a = d .before .before .before .before .before .before .before .args in (
+      child t d .1,
+      on-more _ _ _ _ _ (d .before .before .before .before .loop .inv .1) _ _ _ (child t d .2)
+          (c .before .before .before .load-experiment-rec .ensures)
+          (λ cs. walk-some (a .levels) (a .file .now) (entriesIn (a .table .now) (a .used)) _ (a .nesting) cs) (c .before .if1 .left),
+    )
 
 load-experiment-rec-returns : (t : ℕ) → load-experiment-rec-lts.Need-returns (one t) (load-experiment-rec-at t) load-experiment-rec.Post
 load-experiment-rec-returns t c bs s = gives-zero _ _ _ _ _ _ bs (c .if1 .taken) refl s
 
-load-experiment-rec-single-experiment-loop-requires : (t : ℕ) → load-experiment-rec-lts.Need-single-experiment-loop-requires (one t) (load-experiment-rec-at t) load-experiment-rec.Post
+load-experiment-rec-single-experiment-loop-requires : (t : ℕ)
+    → load-experiment-rec-lts.Need-single-experiment-loop-requires (one t) (load-experiment-rec-at t) load-experiment-rec.Post
 load-experiment-rec-single-experiment-loop-requires t c κs = search needs
 
 load-experiment-rec-enum-told : (t : ℕ) → load-experiment-rec-lts.Need-enum-told (one t) (load-experiment-rec-at t) load-experiment-rec.Post
@@ -163,16 +181,21 @@ load-experiment-rec-get-requires t c κs = search needs
 load-experiment-rec-children-requires : (t : ℕ) → load-experiment-rec-lts.Need-children-requires (one t) (load-experiment-rec-at t) load-experiment-rec.Post
 load-experiment-rec-children-requires t c κs = (c .before .before .before .before .before .before .before .before .before .pre .1 .0, c .get .ensures .1)
 
-load-experiment-rec-nesting-below-requires : (t : ℕ) → load-experiment-rec-lts.Need-nesting-below-requires (one t) (load-experiment-rec-at t) load-experiment-rec.Post
+load-experiment-rec-nesting-below-requires : (t : ℕ)
+    → load-experiment-rec-lts.Need-nesting-below-requires (one t) (load-experiment-rec-at t) load-experiment-rec.Post
 load-experiment-rec-nesting-below-requires t c κs = omega (arith, c .before .before .before .before .before .before .before .before .before .before .pre .1 .2)
 
 load-experiment-rec-appended-requires : (t : ℕ) → load-experiment-rec-lts.Need-appended-requires (one t) (load-experiment-rec-at t) load-experiment-rec.Post
-load-experiment-rec-appended-requires t c κs = (c .before .before .before .before .before .before .before .before .before .before .before .pre .1 .3, omega (arith, c .before .before .before .before .before .before .before .before .before .before .before .pre .1 .2))
+load-experiment-rec-appended-requires t c κs = (
+  c .before .before .before .before .before .before .before .before .before .before .before .pre .1 .3,
+  omega (arith, c .before .before .before .before .before .before .before .before .before .before .before .pre .1 .2),
+)
 
 load-experiment-rec-sub-load-children : (t : ℕ) → load-experiment-rec-lts.Need-sub-load-children (one t) (load-experiment-rec-at t) load-experiment-rec.Post
 load-experiment-rec-sub-load-children t c = search needs
 
-load-experiment-rec-load-children-requires : (t : ℕ) → load-experiment-rec-lts.Need-load-children-requires (one t) (load-experiment-rec-at t) load-experiment-rec.Post
+load-experiment-rec-load-children-requires : (t : ℕ)
+    → load-experiment-rec-lts.Need-load-children-requires (one t) (load-experiment-rec-at t) load-experiment-rec.Post
 load-experiment-rec-load-children-requires t c κs =
     let a = c .before .before .before .before .before .before .before .before .before .before .before .before in
     let (bs, s) = a .pre .1 .3 in
@@ -187,16 +210,23 @@ load-experiment-rec-load-children-requires t c κs =
     )
 
 load-experiment-rec-returns-2 : (t : ℕ) → load-experiment-rec-lts.Need-returns-2 (one t) (load-experiment-rec-at t) load-experiment-rec.Post
-load-experiment-rec-returns-2 t c bs s = gives-nothing _ _ _ _ _ _ (c .before .before .before .if1 .left) bs (sym (ap saidOf (c .enum-told .given .1)) ∙ c .before .before .single-experiment-loop .ensures) refl s
+load-experiment-rec-returns-2 t c bs s =
+    gives-nothing _ _ _ _ _ _ (c .before .before .before .if1 .left) bs
+    (sym (ap saidOf (c .enum-told .given .1)) ∙ c .before .before .single-experiment-loop .ensures) refl s
 
 load-experiment-rec-returns-3 : (t : ℕ) → load-experiment-rec-lts.Need-returns-3 (one t) (load-experiment-rec-at t) load-experiment-rec.Post
-load-experiment-rec-returns-3 t c bs s = gives-wrong _ _ _ _ _ _ (c .before .before .before .before .if1 .left) bs _ (sym (ap saidOf (c .before .n .given .1)) ∙ c .before .before .before .single-experiment-loop .ensures) refl
+load-experiment-rec-returns-3 t c bs s =
+    gives-wrong _ _ _ _ _ _ (c .before .before .before .before .if1 .left) bs _
+    (sym (ap saidOf (c .before .n .given .1)) ∙ c .before .before .before .single-experiment-loop .ensures) refl
 
 load-experiment-rec-returns-4 : (t : ℕ) → load-experiment-rec-lts.Need-returns-4 (one t) (load-experiment-rec-at t) load-experiment-rec.Post
 unfolding ascii
 load-experiment-rec-returns-4 t c bs s =
     let a = c .before .before .before .before .before .before .before .before .before .before .before .before .before .args in
-    gives-loop _ _ _ _ _ _ (c .before .before .before .before .before .before .before .before .before .before .if1 .left) bs _ _ _ _ (sym (ap saidOf (c .before .before .before .before .before .before .before .kind .given .1)) ∙ c .before .before .before .before .before .before .before .before .before .single-experiment-loop .ensures) (c .before .before .nesting-below .ensures .0)
+    gives-loop _ _ _ _ _ _ (c .before .before .before .before .before .before .before .before .before .before .if1 .left) bs _ _ _ _
+    (sym (ap saidOf (c .before .before .before .before .before .before .before .kind .given .1))
+    ∙ c .before .before .before .before .before .before .before .before .before .single-experiment-loop .ensures)
+    (c .before .before .nesting-below .ensures .0)
     (ap (childLevels (a .file .now) (entriesIn (a .table .now) (a .used))) (sym (c .before .before .before .before .get .ensures .0))
     ∙ c .before .before .before .children .ensures .rest)
     (c .load-children .ensures _ (c .before .appended .ensures bs s))

@@ -12,13 +12,18 @@ use borrow.Author.Needs.{needs}
 use Rattle.number.proofs.narrow_fields.Statement.{statement}
 use Rattle.number.proofs.narrow_fields.Tie as tie
 
-low : (c : tie.After-rounded) → Narrowed (c .before .before .before .before .args .exponent) (c .before .before .before .before .args .digits) (c .rounded .result)
+low : (c : tie.After-rounded)
+    → Narrowed (c .before .before .before .before .args .exponent) (c .before .before .before .before .args .digits) (c .rounded .result)
 low c =
     let a = c .before .before .before .before in
-    subst (Narrowed (a .args .exponent) (a .args .digits)) (sym (c .rounded .ensures)) (low-fields (a .args .exponent) (a .args .digits) (a .pre .1) (omega arith) (c .before .if4 .taken))
+    subst (Narrowed (a .args .exponent) (a .args .digits)) (sym (c .rounded .ensures))
+    (low-fields (a .args .exponent) (a .args .digits) (a .pre .1) (omega arith) (c .before .if4 .taken))
 
-mid : (x t r : ℕ) → t < 2 ^ 52 → 897 ≤ x → x < 2047 → r ≡ closest (2 ^ 52 + t) (2 ^ 29) → (x - 897) * 8388608 + r < 2139095040 → Narrowed x t ((x - 897) * 8388608 + r)
-mid x t r D lo hi e p = subst (λ (z : ℕ). Narrowed x t ((x - 897) * 8388608 + z)) (sym e) (mid-fields x t D lo hi (subst (λ (z : ℕ). (x - 897) * 8388608 + z < 2139095040) e p))
+mid : (x t r : ℕ) → t < 2 ^ 52 → 897 ≤ x → x < 2047 → r ≡ closest (2 ^ 52 + t) (2 ^ 29) → (x - 897) * 8388608 + r < 2139095040
+    → Narrowed x t ((x - 897) * 8388608 + r)
+mid x t r D lo hi e p =
+    subst (λ (z : ℕ). Narrowed x t ((x - 897) * 8388608 + z)) (sym e)
+    (mid-fields x t D lo hi (subst (λ (z : ℕ). (x - 897) * 8388608 + z < 2139095040) e p))
 
 add-rounded : tie.Need-add-rounded
 add-rounded c = search needs
@@ -46,7 +51,8 @@ add-bits c =
     let a = c .before .before .before .before in
     let D : a .args .digits < 2 ^ 52 = a .pre .1 in
     let q : 2 ^ 52 + a .args .digits < 2 ^ 53 = omega arith in
-    let l : c .rounded2 .result ≤ 2 ^ 24 = subst (λ (r : ℕ). r ≤ 2 ^ 24) (sym (c .rounded2 .ensures)) (closest-less true (2 ^ 52 + a .args .digits) q 29 (lit≤ tt)) in
+    let l : c .rounded2 .result ≤ 2 ^ 24 =
+    subst (λ (r : ℕ). r ≤ 2 ^ 24) (sym (c .rounded2 .ensures)) (closest-less true (2 ^ 52 + a .args .digits) q 29 (lit≤ tt)) in
     omega (arith, a .pre .0)
 
 cast-result-2 : tie.Need-cast-result-2
@@ -67,12 +73,14 @@ returns-4 c = low c
 returns-5 : tie.Need-returns-5
 returns-5 c =
     let a = c .before .before .before .before .before in
-    mid (a .args .exponent) (a .args .digits) (c .before .rounded2 .result) (a .pre .1) (c .before .before .if4 .left) (omega arith) (c .before .rounded2 .ensures) (c .if5 .taken)
+    mid (a .args .exponent) (a .args .digits) (c .before .rounded2 .result) (a .pre .1) (c .before .before .if4 .left) (omega arith)
+    (c .before .rounded2 .ensures) (c .if5 .taken)
 
 returns-6 : tie.Need-returns-6
 returns-6 c =
     let a = c .before .before .before .before .before in
-    over-fields (a .args .exponent) (a .args .digits) (a .pre .1) (c .before .before .if4 .left) (omega arith) (subst (λ (r : ℕ). 2139095040 ≤ (a .args .exponent - 897) * 8388608 + r) (c .before .rounded2 .ensures) (c .if5 .left))
+    over-fields (a .args .exponent) (a .args .digits) (a .pre .1) (c .before .before .if4 .left) (omega arith)
+    (subst (λ (r : ℕ). 2139095040 ≤ (a .args .exponent - 897) * 8388608 + r) (c .before .rounded2 .ensures) (c .if5 .left))
 
 pub narrow-fields-spec : {M : Type 1} → statement M
 narrow-fields-spec =

@@ -46,7 +46,11 @@ rounded-requires c κs = search needs
 add-result-4 : tie.Need-add-result-4
 add-result-4 c =
     let h = c .before .before .highest in
-    omega (arith, down-bits (c .before .before .before .before .args .n) (h .result) (h .ensures) (c .before .if2 .left) (c .rounded .result) (c .rounded .ensures) .small)
+    omega (
+      arith,
+      down-bits (c .before .before .before .before .args .n) (h .result) (h .ensures) (c .before .if2 .left) (c .rounded .result)
+          (c .rounded .ensures) .small,
+    )
 
 returns-2 : tie.Need-returns-2
 returns-2 c =

@@ -27,7 +27,9 @@ returns c = ap (λ (n : ℕ). ofInt binary64 (negsuc n)) (sym (c .if1 .taken))
 
 returns-2 : tie.Need-returns-2
 unfolding ofInt
-returns-2 c = c .double-of .ensures ∙ c .before .nearest .ensures .is true ∙ ap (λ (n : ℕ). round binary64 true n 1) (add-one (c .before .before .before .args .n))
+returns-2 c =
+    c .double-of .ensures ∙ c .before .nearest .ensures .is true
+    ∙ ap (λ (n : ℕ). round binary64 true n 1) (add-one (c .before .before .before .args .n))
 
 pub of-below-spec : {M : Type 1} → statement M
 of-below-spec =

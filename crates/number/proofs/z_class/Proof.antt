@@ -15,7 +15,13 @@ returns c = simp (sym (c .before .before .usable .ensures) ∙ c .before .if1 .t
 
 returns-2 : tie.Need-returns-2
 unfolding zClass
-returns-2 c = simp (sym (c .before .before .before .usable .ensures) ∙ c .before .before .if1 .taken, least-bits, c .before .if2 .left, most-bits, c .if3 .taken)
+returns-2 c = simp (
+  sym (c .before .before .before .usable .ensures) ∙ c .before .before .if1 .taken,
+  least-bits,
+  c .before .if2 .left,
+  most-bits,
+  c .if3 .taken,
+)
 
 returns-3 : tie.Need-returns-3
 unfolding zClass

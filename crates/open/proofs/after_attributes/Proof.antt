@@ -35,7 +35,8 @@ same-length c = search needs
 returns : tie.Need-returns
 unfolding afterAttributes ascii
 returns c =
-    says-as (stops _ _ (rw (c .before .before .n .given .1) at (c .before .before .before .before .before .before .read-named .ensures .answer))) (c .refused .ensures)
+    says-as (stops _ _ (rw (c .before .before .n .given .1) at (c .before .before .before .before .before .before .read-named .ensures .answer)))
+    (c .refused .ensures)
 
 same-length-2 : tie.Need-same-length-2
 same-length-2 c = search needs

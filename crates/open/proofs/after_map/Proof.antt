@@ -28,7 +28,8 @@ same-length c = search needs
 returns : tie.Need-returns
 unfolding afterMap
 returns c =
-    says-as (stops _ _ (sym (rw (c .before .before .n .given .1) at (c .before .before .before .before .before .before .read-attributes .ensures)))) (c .refused .ensures)
+    says-as (stops _ _ (sym (rw (c .before .before .n .given .1) at (c .before .before .before .before .before .before .read-attributes .ensures))))
+    (c .refused .ensures)
 
 same-length-2 : tie.Need-same-length-2
 same-length-2 c = search needs

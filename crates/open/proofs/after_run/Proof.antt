@@ -18,7 +18,9 @@ refused-requires-2 : tie.Need-refused-requires-2
 refused-requires-2 c κs = search needs
 
 returns-2 : tie.Need-returns-2
-returns-2 c = λ x t. plane-refused _ _ _ _ _ _ _ x t (c .before .before .before .if1 .left) (sym (c .before .before .bad-plane .ensures) ∙ c .before .if2 .taken) (c .refused2 .ensures)
+returns-2 c =
+    λ x t. plane-refused _ _ _ _ _ _ _ x t (c .before .before .before .if1 .left)
+    (sym (c .before .before .bad-plane .ensures) ∙ c .before .if2 .taken) (c .refused2 .ensures)
 
 read-calibration-requires : tie.Need-read-calibration-requires
 read-calibration-requires c κs = search needs

@@ -31,7 +31,8 @@ returns : tie.Need-returns
 unfolding ascii
 returns c =
     let k = c .before in
-    c .uncalibrated .ensures _ _ ∙ sym (ap (calibrationBy _ _) (rw (k .before .n .given .1) at (k .before .before .before .before .before .read-named .ensures .answer)))
+    c .uncalibrated .ensures _ _
+    ∙ sym (ap (calibrationBy _ _) (rw (k .before .n .given .1) at (k .before .before .before .before .before .read-named .ensures .answer)))
 
 same-length-2 : tie.Need-same-length-2
 same-length-2 c = search needs

@@ -23,10 +23,17 @@ enum-known-i : tie.Need-enum-known-i
 enum-known-i c = search needs
 
 load-experiment-requires : tie.Need-load-experiment-requires
-load-experiment-requires c κs = (c .before .before .before .before .before .before .before .pre, rw (c .before .i .given .1) at (c .before .before .before .get-level .ensures .1))
+load-experiment-requires c κs = (
+  c .before .before .before .before .before .before .before .pre,
+  rw (c .before .i .given .1) at (c .before .before .before .get-level .ensures .1),
+)
 
 find-z-step-requires : tie.Need-find-z-step-requires
-find-z-step-requires c κs = let k = c .before in (k .before .before .before .before .before .before .before .pre, rw (k .before .i .given .1) at (k .before .before .before .get-level .ensures .1))
+find-z-step-requires c κs =
+    let k = c .before in (
+      k .before .before .before .before .before .before .before .pre,
+      rw (k .before .i .given .1) at (k .before .before .before .get-level .ensures .1),
+    )
 
 returns : tie.Need-returns
 unfolding found ascii
@@ -36,7 +43,8 @@ returns-2 : tie.Need-returns-2
 unfolding found ascii
 returns-2 c =
     let k = c .before .before .before in
-    run _ _ _ _ (sym (k .before .before .before .get-level .ensures .0) ∙ ap found (k .before .i .given .1)) (c .before .before .load-experiment .ensures .tells) (c .before .find-z-step .ensures)
+    run _ _ _ _ (sym (k .before .before .before .get-level .ensures .0) ∙ ap found (k .before .i .given .1))
+    (c .before .before .load-experiment .ensures .tells) (c .before .find-z-step .ensures)
 
 pub recorded-in-spec : {M : Type 1} → statement M
 recorded-in-spec =

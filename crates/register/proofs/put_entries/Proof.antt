@@ -17,7 +17,8 @@ abbrev μ-loop : tie.MeasureT-loop
 
 -- the entry that stands next
 entry : (c : tie.After-n Inv-loop μ-loop)
-    → Entry (now (c .before .before .before .before .before .before .args .map)) (c .before .before .before .loop .at) (c .before .before .before .loop .entries) (c .n .given .0 .0)
+    → Entry (now (c .before .before .before .before .before .before .args .map)) (c .before .before .before .loop .at)
+    (c .before .before .before .loop .entries) (c .n .given .0 .0)
 entry c = rw (c .n .given .1) at (c .before .before .next-entry .ensures .1)
 
 loop-holds : tie.Need-loop-holds Inv-loop μ-loop

@@ -52,7 +52,8 @@ returns-2 c es =
     let t = p .before .before .before in
     let k = t .before .before in
     let a = k .before .before .before .before .before .args in
-    of-frame (now (a .map)) (a .at) (a .n) (a .count) (search needs) (now (a .buffer)) es _ (named k) (t .if1 .taken) (p .before .le8 .ensures) (p .put-place .ensures)
+    of-frame (now (a .map)) (a .at) (a .n) (a .count) (search needs) (now (a .buffer)) es _ (named k) (t .if1 .taken) (p .before .le8 .ensures)
+    (p .put-place .ensures)
 
 returns-3 : tie.Need-returns-3
 returns-3 c es =

@@ -57,7 +57,8 @@ returns-3 c =
     let k = c .before .before in
     let b = k .before .before .before in
     let a = b .before .before .before .args in
-    of-room (now (a .file)) (a .u) (a .room) (passed b) (checked (k .before)) (k .if2 .left) (search needs) _ (c .before .frames .ensures) (c .room-check .ensures)
+    of-room (now (a .file)) (a .u) (a .room) (passed b) (checked (k .before)) (k .if2 .left) (search needs) _ (c .before .frames .ensures)
+    (c .room-check .ensures)
 
 pub refused-by-spec : {M : Type 1} → statement M
 refused-by-spec =

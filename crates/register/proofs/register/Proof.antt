@@ -50,7 +50,8 @@ returns-2 c =
     let f = p .before .before in
     let g = f .before in
     let a = g .before .before .before .before .args in
-    made-register (now (a .file)) (a .u) (now (a .buffer)) (good g) (f .frames .ensures) (d .data-of .ensures) (p .put-frames .ensures) (e .put-entries .ensures)
+    made-register (now (a .file)) (a .u) (now (a .buffer)) (good g) (f .frames .ensures) (d .data-of .ensures) (p .put-frames .ensures)
+    (e .put-entries .ensures)
 
 pub register-spec : {M : Type 1} → statement M
 register-spec =

@@ -53,4 +53,6 @@ returns-2 c =
     rw e at (l .inv)
 
 pub bad-loops-spec : {M : Type 1} → statement M
-bad-loops-spec = tie.close (tie.spec Inv-loop μ-loop used-requires loop-holds loop-at-requires add-has-axis has-axis-requires returns add-i loop-less loop-again returns-2)
+bad-loops-spec =
+    tie.close (tie.spec Inv-loop μ-loop used-requires loop-holds loop-at-requires add-has-axis has-axis-requires returns add-i loop-less loop-again
+    returns-2)

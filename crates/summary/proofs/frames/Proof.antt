@@ -37,7 +37,8 @@ turn : (c : tie.After-struct-known Inv-loop μ-loop) → let t = c .before .befo
     (l .count * t .loop .n ≡ frames (drop (t .loop .i - 1) (loopsOf (t .before .before .args .u)))) × (l .count * t .loop .n ≤ mostCount ^ 3)
 turn c =
     let t = c .before .before .before in
-    frames-back (t .loop .i) (loopsOf (t .before .before .args .u)) (c .before .before .loop-test .taken) (c .before .loop-at .ensures) (t .before .before .pre) (t .loop .inv .1) (t .loop .inv .2)
+    frames-back (t .loop .i) (loopsOf (t .before .before .args .u)) (c .before .before .loop-test .taken) (c .before .loop-at .ensures)
+    (t .before .before .pre) (t .loop .inv .1) (t .loop .inv .2)
 
 mul-n : tie.Need-mul-n Inv-loop μ-loop
 mul-n c = omega (arith, turn c)

@@ -46,7 +46,8 @@ module _ (c : tie.After-loop-at Inv-loop μ-loop) where
       (l .count * t .loop .f ≡ frames (drop (t .loop .i - 1) (loopsOf (t .before .before .args .u)))) × (l .count * t .loop .f ≤ mostCount ^ 3)
   turn =
       let t = c .before .before in
-      frames-back (t .loop .i) (loopsOf (t .before .before .args .u)) (c .before .loop-test .taken) (c .loop-at .ensures) (t .before .before .pre) (t .loop .inv .1) (t .loop .inv .2)
+      frames-back (t .loop .i) (loopsOf (t .before .before .args .u)) (c .before .loop-test .taken) (c .loop-at .ensures) (t .before .before .pre)
+      (t .loop .inv .1) (t .loop .inv .2)
 
 pace-in-requires : tie.Need-pace-in-requires Inv-loop μ-loop
 pace-in-requires c κs = tt

@@ -79,7 +79,8 @@ first-step-μ-loop file table used levels turn₀ turn = length (restOf file (en
 first-step-loop-holds : (t : ℕ) → first-step-lts.Need-loop-holds (kids t) (first-step-at t) first-step.Post first-step-Inv-loop first-step-μ-loop
 first-step-loop-holds t c = (c .before .before .pre .1 .1, refl)
 
-first-step-next-child-requires : (t : ℕ) → first-step-lts.Need-next-child-requires (kids t) (first-step-at t) first-step.Post first-step-Inv-loop first-step-μ-loop
+first-step-next-child-requires : (t : ℕ)
+    → first-step-lts.Need-next-child-requires (kids t) (first-step-at t) first-step.Post first-step-Inv-loop first-step-μ-loop
 first-step-next-child-requires t c κs = (c .before .before .before .pre .1 .0, c .loop .inv .0)
 
 first-step-enum-told : (t : ℕ) → first-step-lts.Need-enum-told (kids t) (first-step-at t) first-step.Post first-step-Inv-loop first-step-μ-loop
@@ -94,17 +95,24 @@ first-step-enum-known-i t c = search needs
 -- the next child level, and where the walk stands after it
 child : (t : ℕ) (c : first-step-lts.After-known-told (kids t) (first-step-at t) first-step.Post first-step-Inv-loop first-step-μ-loop)
     → let a = c .before .before .before .before .before .before .before .args in
-    NextOf (a .file .now) (entryIn (a .table .now)) (a .used) (restOf (a .file .now) (entryIn (a .table .now)) (a .used) (c .before .before .before .before .loop .turn)) (Child (c .before .i .given .0 .0) (c .before .i .given .0 .1 .0))
+    NextOf (a .file .now) (entryIn (a .table .now)) (a .used)
+    (restOf (a .file .now) (entryIn (a .table .now)) (a .used) (c .before .before .before .before .loop .turn))
+    (Child (c .before .i .given .0 .0) (c .before .i .given .0 .1 .0))
 child t c = rw (c .before .i .given .1) at (c .before .before .before .next-child .ensures)
 
-first-step-step-from-requires : (t : ℕ) → first-step-lts.Need-step-from-requires (kids t) (first-step-at t) first-step.Post first-step-Inv-loop first-step-μ-loop
-first-step-step-from-requires t c κs = let a = c .before .before .before .before .before .before .before in (omega (arith, a .pre .0), (a .pre .1 .0, child t c .0))
+first-step-step-from-requires : (t : ℕ)
+    → first-step-lts.Need-step-from-requires (kids t) (first-step-at t) first-step.Post first-step-Inv-loop first-step-μ-loop
+first-step-step-from-requires t c κs =
+    let a = c .before .before .before .before .before .before .before in (omega (arith, a .pre .0), (a .pre .1 .0, child t c .0))
 
 first-step-enum-known-x : (t : ℕ) → first-step-lts.Need-enum-known-x (kids t) (first-step-at t) first-step.Post first-step-Inv-loop first-step-μ-loop
 first-step-enum-known-x t c = search needs
 
 first-step-returns-2 : (t : ℕ) → first-step-lts.Need-returns-2 (kids t) (first-step-at t) first-step.Post first-step-Inv-loop first-step-μ-loop
-first-step-returns-2 t c = first-here _ _ _ _ (child t (c .before .before .before .before) .2) _ (sym (ap real (c .before .x .given .1)) ∙ c .before .before .before .step-from .ensures) ∙ sym (c .before .before .before .before .before .before .before .before .loop .inv .1)
+first-step-returns-2 t c =
+    first-here _ _ _ _ (child t (c .before .before .before .before) .2) _
+    (sym (ap real (c .before .x .given .1)) ∙ c .before .before .before .step-from .ensures)
+    ∙ sym (c .before .before .before .before .before .before .before .before .loop .inv .1)
 
 first-step-enum-told-2 : (t : ℕ) → first-step-lts.Need-enum-told-2 (kids t) (first-step-at t) first-step.Post first-step-Inv-loop first-step-μ-loop
 first-step-enum-told-2 t c = search needs
@@ -113,7 +121,12 @@ first-step-loop-less : (t : ℕ) → first-step-lts.Need-loop-less (kids t) (fir
 first-step-loop-less t c = omega (arith, ap length (child t (c .before .before .before) .2))
 
 first-step-loop-again : (t : ℕ) → first-step-lts.Need-loop-again (kids t) (first-step-at t) first-step.Post first-step-Inv-loop first-step-μ-loop
-first-step-loop-again t c = (child t (c .before .before .before) .1, c .before .before .before .before .before .before .before .loop .inv .1 ∙ first-later _ _ _ _ (child t (c .before .before .before) .2) (sym (ap real (c .enum-told2 .given .1)) ∙ c .before .before .step-from .ensures))
+first-step-loop-again t c = (
+  child t (c .before .before .before) .1,
+  c .before .before .before .before .before .before .before .loop .inv .1
+      ∙ first-later _ _ _ _ (child t (c .before .before .before) .2)
+      (sym (ap real (c .enum-told2 .given .1)) ∙ c .before .before .step-from .ensures),
+)
 
 step-from-returns : (t : ℕ) → step-from-lts.Need-returns (one t) (step-from-at t) step-from.Post
 step-from-returns t c = step-zero _ _ _ _ (c .if1 .taken)

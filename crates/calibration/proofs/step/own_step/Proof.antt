@@ -15,9 +15,13 @@ use Rattle.calibration.proofs.step.own_step.Tie as tie
 -- what a loop over z states, by its parameters
 parameters : (c : tie.After-as-loop-params)
     → let a = c .before .before .before .before .before .before .before .before .before .args in
-    ownStep (a .file .now) (entriesIn (a .table .now) (a .used)) true (found (c .as-loop-params .result)) ≡ stepAt (a .file .now) (entriesIn (a .table .now) (a .used)) (a .i)
+    ownStep (a .file .now) (entriesIn (a .table .now) (a .used)) true (found (c .as-loop-params .result))
+    ≡ stepAt (a .file .now) (entriesIn (a .table .now) (a .used)) (a .i)
 unfolding ascii
-parameters c = step-params _ _ _ _ (c .before .before .before .before .is-z-stack .ensures ∙ ap isFour (c .before .before .before .before .before .get-i64 .ensures)) _ (not-false _ (c .before .before .before .if1 .left)) (c .as-loop-params .ensures .0 _ ∙ ap (loopParams _ _) (c .before .get .ensures .0))
+parameters c =
+    step-params _ _ _ _ (c .before .before .before .before .is-z-stack .ensures
+    ∙ ap isFour (c .before .before .before .before .before .get-i64 .ensures)) _ (not-false _ (c .before .before .before .if1 .left))
+    (c .as-loop-params .ensures .0 _ ∙ ap (loopParams _ _) (c .before .get .ensures .0))
 
 add-get-i64 : tie.Need-add-get-i64
 add-get-i64 c = search needs
@@ -54,7 +58,10 @@ enum-known-p : tie.Need-enum-known-p
 enum-known-p c = search needs
 
 params-step-requires : tie.Need-params-step-requires
-params-step-requires c κs = (c .before .before .before .before .before .before .before .before .before .before .before .before .pre .0, at-within _ _ _ (c .before .p .given .1) (c .before .before .before .as-loop-params .ensures .1))
+params-step-requires c κs = (
+  c .before .before .before .before .before .before .before .before .before .before .before .before .pre .0,
+  at-within _ _ _ (c .before .p .given .1) (c .before .before .before .as-loop-params .ensures .1),
+)
 
 returns-2 : tie.Need-returns-2
 unfolding ownStep found

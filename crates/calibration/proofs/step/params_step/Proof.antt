@@ -34,7 +34,9 @@ returns c = rw (← c .before .before .before .before .get-f64 .ensures, ← c .
 
 returns-2 : tie.Need-returns-2
 unfolding ownStep orElse ascii
-returns-2 c = rw (← c .before .before .before .before .get-f64 .ensures, ← c .before .before .before .stated-in .ensures, c .before .enum-told .given .1) (c .span-in .ensures)
+returns-2 c =
+    rw (← c .before .before .before .before .get-f64 .ensures, ← c .before .before .before .stated-in .ensures, c .before .enum-told .given .1)
+    (c .span-in .ensures)
 
 pub params-step-spec : {M : Type 1} → statement M
 params-step-spec =

@@ -31,7 +31,9 @@ span-of-requires c κs = search needs
 
 returns : tie.Need-returns
 unfolding ascii
-returns c = c .span-of .ensures ∙ rw (c .before .ui-count .ensures, c .before .before .get-f642 .ensures, c .before .before .before .before .get-f64 .ensures) refl
+returns c =
+    c .span-of .ensures ∙ rw (c .before .ui-count .ensures, c .before .before .get-f642 .ensures, c .before .before .before .before .get-f64 .ensures)
+    refl
 
 pub span-in-spec : {M : Type 1} → statement M
 span-in-spec =

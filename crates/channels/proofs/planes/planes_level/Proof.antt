@@ -33,7 +33,9 @@ module _ (c : tie.After-known-told) where
   s = now (c .before .before .before .before .before .before .before .args .file)
 
   abbrev es : List Entry
-  es = entriesIn (now (c .before .before .before .before .before .before .before .args .table)) (c .before .before .before .before .before .before .before .args .used)
+  es =
+      entriesIn (now (c .before .before .before .before .before .before .before .args .table))
+      (c .before .before .before .before .before .before .before .args .used)
 
   metadata : some (c .before .i .given .0 .0) ≡ asLevel (field s es 0 (ascii "SLxPictureMetadata"))
   unfolding found ascii
@@ -43,7 +45,8 @@ module _ (c : tie.After-known-told) where
   inside = at-within _ _ _ (c .before .i .given .1) (c .before .before .before .get-level .ensures .1)
 
 module _ (c : tie.After-known-told2) where
-  pictures : let d = c .before .before .before .before .before in some (c .before .j .given .0 .0) ≡ asLevel (fieldIn (s d) (es d) (d .before .i .given .0 .0) (ascii "sPicturePlanes"))
+  pictures : let d = c .before .before .before .before .before in
+      some (c .before .j .given .0 .0) ≡ asLevel (fieldIn (s d) (es d) (d .before .i .given .0 .0) (ascii "sPicturePlanes"))
   unfolding found ascii
   pictures = sym (ap found (c .before .j .given .1)) ∙ c .before .before .before .get-level2 .ensures .0
 
@@ -71,7 +74,10 @@ enum-told-2 c = search needs
 
 returns-2 : tie.Need-returns-2
 unfolding found ascii
-returns-2 c = (no-pictures _ _ _ (metadata (c .before .before .before .before)) (sym (ap found (c .enum-told2 .given .1)) ∙ c .before .before .get-level2 .ensures .0), tt)
+returns-2 c = (
+  no-pictures _ _ _ (metadata (c .before .before .before .before)) (sym (ap found (c .enum-told2 .given .1)) ∙ c .before .before .get-level2 .ensures .0),
+  tt,
+)
 
 add-get-level-2 : tie.Need-add-get-level-2
 add-get-level-2 c = record { fits = omega (arith, inside-2 c) }
@@ -80,7 +86,11 @@ slice-aggregate-get-level-3 : tie.Need-slice-aggregate-get-level-3
 slice-aggregate-get-level-3 c = search needs
 
 get-level-requires-3 : tie.Need-get-level-requires-3
-get-level-requires-3 c κs = (c .before .before .before .before .before .before .before .before .before .before .before .before .before .pre, omega (arith, inside-2 (c .before)), search needs)
+get-level-requires-3 c κs = (
+  c .before .before .before .before .before .before .before .before .before .before .before .before .before .pre,
+  omega (arith, inside-2 (c .before)),
+  search needs,
+)
 
 enum-known-k : tie.Need-enum-known-k
 enum-known-k c = search needs
@@ -103,15 +113,20 @@ returns-3 : tie.Need-returns-3
 unfolding found ascii
 returns-3 c =
     let d = c .before .before .before .before .before in
-    let g = c .before .before .before .get-level3 .ensures in
-    (new-planes _ _ _ (metadata (d .before .before .before .before .before)) _ (pictures d) _ (sym (ap found (c .before .k .given .1)) ∙ g .0), at-within _ _ _ (c .before .k .given .1) (g .1))
+    let g = c .before .before .before .get-level3 .ensures in (
+      new-planes _ _ _ (metadata (d .before .before .before .before .before)) _ (pictures d) _ (sym (ap found (c .before .k .given .1)) ∙ g .0),
+      at-within _ _ _ (c .before .k .given .1) (g .1),
+    )
 
 returns-4 : tie.Need-returns-4
 unfolding found ascii
 returns-4 c =
     let e = c .before .before in
-    let d = e .before .before .before .before in
-    (old-planes _ _ _ (metadata (d .before .before .before .before .before)) _ (pictures d) (sym (ap found (e .enum-told3 .given .1)) ∙ e .before .before .get-level3 .ensures .0) (c .get-level4 .ensures .0), c .get-level4 .ensures .1)
+    let d = e .before .before .before .before in (
+      old-planes _ _ _ (metadata (d .before .before .before .before .before)) _ (pictures d)
+          (sym (ap found (e .enum-told3 .given .1)) ∙ e .before .before .get-level3 .ensures .0) (c .get-level4 .ensures .0),
+      c .get-level4 .ensures .1,
+    )
 
 pub planes-level-spec : {M : Type 1} → statement M
 planes-level-spec =

@@ -35,7 +35,9 @@ unfolding ascii
 returns c =
     let d = c .before .before .before in
     let a = d .before .before .before .before .before .args in
-    channel-is (a .file .now) (entriesIn (a .table .now) (a .used)) (a .i) (d .described .ensures (a .file .now) (entriesIn (a .table .now) (a .used))) (d .before .get .ensures .0) (c .before .get-u64 .ensures) (c .colored .ensures)
+    channel-is (a .file .now) (entriesIn (a .table .now) (a .used)) (a .i)
+    (d .described .ensures (a .file .now) (entriesIn (a .table .now) (a .used))) (d .before .get .ensures .0) (c .before .get-u64 .ensures)
+    (c .colored .ensures)
 
 pub channel-of-spec : {M : Type 1} → statement M
 channel-of-spec =

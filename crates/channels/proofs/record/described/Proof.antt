@@ -23,7 +23,9 @@ named-requires-2 : tie.Need-named-requires-2
 named-requires-2 c κs = search needs
 
 returns-2 : tie.Need-returns-2
-returns-2 c = λ s es. text-empty s es (c .before .before .before .before .before .before .f .given .1) (c .before .before .before .v .given .1) (c .before .if1 .taken) (c .named2 .ensures)
+returns-2 c =
+    λ s es. text-empty s es (c .before .before .before .before .before .before .f .given .1) (c .before .before .before .v .given .1)
+    (c .before .if1 .taken) (c .named2 .ensures)
 
 named-requires-3 : tie.Need-named-requires-3
 named-requires-3 c κs = search needs
@@ -32,7 +34,9 @@ named-requires-4 : tie.Need-named-requires-4
 named-requires-4 c κs = search needs
 
 returns-3 : tie.Need-returns-3
-returns-3 c = λ s es. text-some s es (c .before .before .before .before .before .before .f .given .1) (c .before .before .before .v .given .1) (c .before .if1 .left) (c .named3 .ensures)
+returns-3 c =
+    λ s es. text-some s es (c .before .before .before .before .before .before .f .given .1) (c .before .before .before .v .given .1)
+    (c .before .if1 .left) (c .named3 .ensures)
 
 returns-4 : tie.Need-returns-4
 returns-4 c = λ s es. text-other s es (c .before .before .before .f .given .1) (c .before .match2 .keys2) (c .named4 .ensures)

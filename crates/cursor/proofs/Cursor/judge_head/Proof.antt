@@ -44,7 +44,8 @@ returns-5 : tie.Need-returns-5
 returns-5 c = λ d inside kind units.
     let i = c .before .before in
     let p = i .before .before .before .pre in
-    head-unknown d (omega (arith, p)) kind units (i .before .before .if1 .left) (i .before .if2 .left) (rw (p .0) at (i .if3 .left)) (sym (c .before .is-known .ensures) ∙ c .if4 .left)
+    head-unknown d (omega (arith, p)) kind units (i .before .before .if1 .left) (i .before .if2 .left) (rw (p .0) at (i .if3 .left))
+    (sym (c .before .is-known .ensures) ∙ c .if4 .left)
 
 pub judge-head-spec : {M : Type 1} → statement M
 judge-head-spec =

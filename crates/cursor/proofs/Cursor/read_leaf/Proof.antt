@@ -27,7 +27,8 @@ returns-3 c = λ children start.
     let f = c .before in
     let i = f .before in
     let p = i .before .before .before .pre in
-    leaf-same _ _ (value-fixed _ children _ start _ _ (p .1) (i .before .if1 .left) (i .if2 .left)) (rw (← f .fixed-len .ensures .0) (fixed-cut _ _ (p .0) _ (c .if3 .taken)))
+    leaf-same _ _ (value-fixed _ children _ start _ _ (p .1) (i .before .if1 .left) (i .if2 .left))
+    (rw (← f .fixed-len .ensures .0) (fixed-cut _ _ (p .0) _ (c .if3 .taken)))
 
 add-t8 : tie.Need-add-t8
 add-t8 c = search needs
@@ -37,7 +38,8 @@ returns-4 c = λ children start.
     let f = c .before in
     let i = f .before in
     let p = i .before .before .before .pre in
-    leaf-same _ _ (value-fixed _ children _ start _ _ (p .1) (i .before .if1 .left) (i .if2 .left)) (rw (← f .fixed-len .ensures .0) (fixed-read _ _ (p .0) _ (c .if3 .left)))
+    leaf-same _ _ (value-fixed _ children _ start _ _ (p .1) (i .before .if1 .left) (i .if2 .left))
+    (rw (← f .fixed-len .ensures .0) (fixed-read _ _ (p .0) _ (c .if3 .left)))
 
 pub read-leaf-spec : {M : Type 1} → statement M
 read-leaf-spec =

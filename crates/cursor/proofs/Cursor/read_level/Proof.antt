@@ -53,7 +53,8 @@ returns-2 c =
     let s = m .before .before in
     let n = s .before .before .before in
     let r = n .before .before in
-    level-short _ _ (r .before .before .pre .0) (r .before .before .pre .1) (sym (r .read-u32 .ensures .0) ∙ ap wordOf (n .count .given .1)) (s .before .if1 .left)
+    level-short _ _ (r .before .before .pre .0) (r .before .before .pre .1) (sym (r .read-u32 .ensures .0) ∙ ap wordOf (n .count .given .1))
+    (s .before .if1 .left)
     (sym (s .read-u64 .ensures .0) ∙ ap wordOf (m .length .given .1)) (c .if2 .taken)
 
 sub-if3 : tie.Need-sub-if3
@@ -65,7 +66,8 @@ returns-3 c =
     let s = m .before .before in
     let n = s .before .before .before in
     let r = n .before .before in
-    level-past _ _ (r .before .before .pre .0) (r .before .before .pre .1) (sym (r .read-u32 .ensures .0) ∙ ap wordOf (n .count .given .1)) (s .before .if1 .left)
+    level-past _ _ (r .before .before .pre .0) (r .before .before .pre .1) (sym (r .read-u32 .ensures .0) ∙ ap wordOf (n .count .given .1))
+    (s .before .if1 .left)
     (sym (s .read-u64 .ensures .0) ∙ ap wordOf (m .length .given .1)) (c .before .if2 .left) (c .if3 .taken)
 
 add-to : tie.Need-add-to
@@ -83,7 +85,8 @@ returns-5 c =
     let s = c .before .before in
     let n = s .before .before .before in
     let r = n .before .before in
-    level-unsized _ _ (r .before .before .pre .0) (r .before .before .pre .1) (sym (r .read-u32 .ensures .0) ∙ ap wordOf (n .count .given .1)) (s .before .if1 .left)
+    level-unsized _ _ (r .before .before .pre .0) (r .before .before .pre .1) (sym (r .read-u32 .ensures .0) ∙ ap wordOf (n .count .given .1))
+    (s .before .if1 .left)
     (sym (s .read-u64 .ensures .0) ∙ ap wordOf (c .enum-told2 .given .1))
 
 returns-6 : tie.Need-returns-6
@@ -92,7 +95,8 @@ returns-6 c =
     let s = m .before .before in
     let n = s .before .before .before in
     let r = n .before .before in
-    level-inner _ _ (r .before .before .pre .0) (r .before .before .pre .1) (sym (r .read-u32 .ensures .0) ∙ ap wordOf (n .count .given .1)) (s .before .if1 .left)
+    level-inner _ _ (r .before .before .pre .0) (r .before .before .pre .1) (sym (r .read-u32 .ensures .0) ∙ ap wordOf (n .count .given .1))
+    (s .before .if1 .left)
     (sym (s .read-u64 .ensures .0) ∙ ap wordOf (m .length .given .1)) (c .before .if2 .left) (c .if3 .left)
 
 pub read-level-spec : {M : Type 1} → statement M

@@ -52,7 +52,8 @@ returns : tie.Need-returns Inv-loop μ-loop
 returns c =
     let k = c .before .before .before .before in
     let a = k .before .before .args in
-    found (a .t1) (a .depth) (a .axis) _ (k .before .axis-number .ensures) (k .before .before .good .0 .1 .0 .1) (k .before .before .pre) (k .loop .i) (omega arith) (sym (c .before .axis-number2 .ensures) ∙ c .if1 .taken)
+    found (a .t1) (a .depth) (a .axis) _ (k .before .axis-number .ensures) (k .before .before .good .0 .1 .0 .1) (k .before .before .pre) (k .loop .i)
+    (omega arith) (sym (c .before .axis-number2 .ensures) ∙ c .if1 .taken)
 
 add-i : tie.Need-add-i Inv-loop μ-loop
 add-i c = search needs
@@ -69,7 +70,8 @@ returns-2 : tie.Need-returns-2 Inv-loop μ-loop
 returns-2 c =
     let k = c .before in
     let a = k .before .before .args in
-    not-found (a .t1) (a .depth) (a .axis) _ (k .before .axis-number .ensures) (k .before .before .good .0 .1 .0 .1) (k .before .before .pre) (λ i h. k .loop .inv .1 i (omega arith))
+    not-found (a .t1) (a .depth) (a .axis) _ (k .before .axis-number .ensures) (k .before .before .good .0 .1 .0 .1) (k .before .before .pre)
+    (λ i h. k .loop .inv .1 i (omega arith))
 
 pub has-axis-spec : {M : Type 1} → statement M
 has-axis-spec =

@@ -32,7 +32,8 @@ has-axis-requires c κs =
     next-few (built (a .args .kind) (a .args .count) (a .args .nesting)) (a .pre .0 .0) _ _ _ (a .pre .0 .1 .judged) (c .before .before .before .if1 .left)
 
 -- the test of the axis, of the loop's type
-axis-test : (c : tie.After-has-axis) → let a = c .before .before .before .before .before .args in c .has-axis .result ≡ hasAxis (axisOf (a .kind)) (take (a .kept .depth) (a .kept .loops))
+axis-test : (c : tie.After-has-axis) → let a = c .before .before .before .before .before .args in
+    c .has-axis .result ≡ hasAxis (axisOf (a .kind)) (take (a .kept .depth) (a .kept .loops))
 axis-test c =
     let a = c .before .before .before .before .before .args in
     c .has-axis .ensures ∙ ap (λ (x : Axis). hasAxis x (take (a .kept .depth) (a .kept .loops))) (c .before .before .axis-of .ensures)
@@ -40,14 +41,18 @@ axis-test c =
 returns-3 : tie.Need-returns-3
 returns-3 c bs s =
     let k = c .before .before .before in
-    record { last = one refl refl; judged = next-twice _ bs _ _ _ (s .judged) (k .before .before .if1 .left) (k .before .if2 .left) (sym (axis-test (c .before)) ∙ c .if3 .taken) }
+    record {
+      last = one refl refl;
+      judged = next-twice _ bs _ _ _ (s .judged) (k .before .before .if1 .left) (k .before .if2 .left) (sym (axis-test (c .before)) ∙ c .if3 .taken);
+    }
 
 -- where no loop runs over the axis yet, there is room
 room : (c : tie.Else3) → c .before .before .before .before .before .before .args .kept .depth < 3
 room c =
     let k = c .before .before .before in
     let a = k .before .before .before in
-    next-room (built (a .args .kind) (a .args .count) (a .args .nesting)) (a .pre .0 .0) _ _ _ (a .pre .0 .1 .judged) (k .before .before .if1 .left) (k .before .if2 .left) (sym (axis-test (c .before)) ∙ c .if3 .left)
+    next-room (built (a .args .kind) (a .args .count) (a .args .nesting)) (a .pre .0 .0) _ _ _ (a .pre .0 .1 .judged) (k .before .before .if1 .left)
+    (k .before .if2 .left) (sym (axis-test (c .before)) ∙ c .if3 .left)
 
 mul-t15 : tie.Need-mul-t15
 mul-t15 c = record { fits = omega (arith, room c) }
@@ -63,7 +68,9 @@ returns-4 c bs s =
     let k = c .before .before .before in
     record {
       last = one refl refl;
-      judged = rw (k .axis-of .ensures) (next-kept _ bs _ _ _ (s .judged) (k .before .before .if1 .left) (k .before .if2 .left) (sym (axis-test (c .before)) ∙ c .if3 .left));
+      judged =
+          rw (k .axis-of .ensures)
+          (next-kept _ bs _ _ _ (s .judged) (k .before .before .if1 .left) (k .before .if2 .left) (sym (axis-test (c .before)) ∙ c .if3 .left));
     }
 
 pub push-spec : {M : Type 1} → statement M

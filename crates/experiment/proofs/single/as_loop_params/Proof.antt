@@ -10,7 +10,9 @@ use Rattle.experiment.proofs.single.as_loop_params.Statement.{statement
 use Rattle.experiment.proofs.single.as_loop_params.Tie as tie
 
 inside : (c : tie.After-known-told3) → c .before .v2 .given .0 .0 < c .before .before .before .before .before .before .before .args .used
-inside c = inside-list _ _ _ (c .before .v2 .given .1) (inside-is _ _ _ (c .before .before .before .before .f .given .1) (c .before .before .before .before .before .before .before .pre .1))
+inside c =
+    inside-list _ _ _ (c .before .v2 .given .1)
+    (inside-is _ _ _ (c .before .before .before .before .f .given .1) (c .before .before .before .before .before .before .before .pre .1))
 
 enum-known-f : tie.Need-enum-known-f
 enum-known-f c = search needs
@@ -36,11 +38,18 @@ only-level-requires c κs = (c .before .before .before .before .before .before .
 
 returns-2 : tie.Need-returns-2
 unfolding found
-returns-2 c = (λ s. params-level s _ _ _ (c .before .before .before .before .f .given .1) _ (c .before .v .given .1), inside-level _ _ _ (c .before .v .given .1) (inside-is _ _ _ (c .before .before .before .before .f .given .1) (c .before .before .before .before .before .before .before .pre .1)))
+returns-2 c = (
+  λ s. params-level s _ _ _ (c .before .before .before .before .f .given .1) _ (c .before .v .given .1),
+  inside-level _ _ _ (c .before .v .given .1)
+      (inside-is _ _ _ (c .before .before .before .before .f .given .1) (c .before .before .before .before .before .before .before .pre .1)),
+)
 
 returns-3 : tie.Need-returns-3
 unfolding found
-returns-3 c = (λ s. params-list s _ _ _ (c .before .before .before .before .before .f .given .1) _ _ (c .before .before .v2 .given .1) (c .only-level .ensures .0 s), c .only-level .ensures .1)
+returns-3 c = (
+  λ s. params-list s _ _ _ (c .before .before .before .before .before .f .given .1) _ _ (c .before .before .v2 .given .1) (c .only-level .ensures .0 s),
+  c .only-level .ensures .1,
+)
 
 returns-4 : tie.Need-returns-4
 unfolding found

@@ -11,7 +11,8 @@ use Rattle.experiment.proofs.single.count_valid.Statement.{statement}
 use Rattle.experiment.proofs.single.count_valid.Tie as tie
 
 abbrev Inv-loop : tie.InvT-loop
-Inv-loop file table used parent n count₀ left₀ at₀ count left at = Within used at × Counting file (entriesIn table used) (elementsOf file (entriesIn table used) parent) n count left at
+Inv-loop file table used parent n count₀ left₀ at₀ count left at =
+    Within used at × Counting file (entriesIn table used) (elementsOf file (entriesIn table used) parent) n count left at
 
 abbrev μ-loop : tie.MeasureT-loop
 μ-loop file table used parent n count₀ left₀ at₀ count left at = left
@@ -38,7 +39,14 @@ is-truthy-requires : tie.Need-is-truthy-requires Inv-loop μ-loop
 is-truthy-requires c κs = (c .before .before .before .before .before .before .before .before .pre .0, inside c)
 
 add-count : tie.Need-add-count Inv-loop μ-loop
-add-count c = record { fits = omega (arith, counting-room _ _ _ _ _ _ _ (c .before .before .before .before .before .loop .inv .1) (c .before .before .before .before .loop-test .taken), c .is-truthy .ensures .1) }
+add-count c =
+    record {
+      fits = omega (
+        arith,
+        counting-room _ _ _ _ _ _ _ (c .before .before .before .before .before .loop .inv .1) (c .before .before .before .before .loop-test .taken),
+        c .is-truthy .ensures .1,
+      );
+    }
 
 next-element-requires : tie.Need-next-element-requires Inv-loop μ-loop
 next-element-requires c κs =
@@ -55,7 +63,12 @@ loop-less : tie.Need-loop-less Inv-loop μ-loop
 loop-less c = omega arith
 
 loop-again : tie.Need-loop-again Inv-loop μ-loop
-loop-again c = (c .next-element .ensures .1, counting-more _ _ _ _ _ _ _ (c .before .before .before .before .before .before .loop .inv .1) _ _ _ (c .before .before .before .at .given .1) (c .before .before .before .before .before .loop-test .taken) (c .before .is-truthy .ensures .0) (c .before .is-truthy .ensures .1) (c .next-element .ensures .0 _))
+loop-again c = (
+  c .next-element .ensures .1,
+  counting-more _ _ _ _ _ _ _ (c .before .before .before .before .before .before .loop .inv .1) _ _ _ (c .before .before .before .at .given .1)
+      (c .before .before .before .before .before .loop-test .taken) (c .before .is-truthy .ensures .0) (c .before .is-truthy .ensures .1)
+      (c .next-element .ensures .0 _),
+)
 
 returns-2 : tie.Need-returns-2 Inv-loop μ-loop
 returns-2 c = counting-done _ _ _ _ _ _ _ (c .before .loop .inv .1) (c .loop-test .left)

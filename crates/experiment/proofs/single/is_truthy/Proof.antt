@@ -9,7 +9,8 @@ use borrow.Author.Needs.{needs}
 use Rattle.experiment.proofs.single.is_truthy.Statement.{statement}
 use Rattle.experiment.proofs.single.is_truthy.Tie as tie
 
-reading : (c : tie.After-or-zero) → let a = c .before .before .before .before .before .args in c .or-zero .result ≡ orZero (unsigned (valueAt (a .file .now) (entriesIn (a .table .now) (a .used)) (a .i)))
+reading : (c : tie.After-or-zero) → let a = c .before .before .before .before .before .args in
+    c .or-zero .result ≡ orZero (unsigned (valueAt (a .file .now) (entriesIn (a .table .now) (a .used)) (a .i)))
 reading c =
     c .or-zero .ensures ∙ ap orZero (c .before .as-u64 .ensures _ _ ∙ ap unsigned (c .before .before .value-at .ensures .0))
 

@@ -43,13 +43,22 @@ returns c = (λ s. only-none s _ _ (sym (ap found (c .enum-told .given .1)) ∙ 
 
 returns-2 : tie.Need-returns-2
 unfolding found
-returns-2 c =
-    (λ s. let h = sym (ap found (c .before .before .before .before .before .i .given .1)) ∙ c .before .before .before .before .before .before .before .first-element .ensures .0 s in only-one s _ _ _ h _ (sym (ap found (c .before .enum-told2 .given .1)) ∙ c .before .before .before .next-element .ensures .0 s 0 (sym h)) (c .level-at .ensures .0 s), c .level-at .ensures .1)
+returns-2 c = (
+  λ s. let h = sym (ap found (c .before .before .before .before .before .i .given .1))
+      ∙ c .before .before .before .before .before .before .before .first-element .ensures .0 s in
+      only-one s _ _ _ h _ (sym (ap found (c .before .enum-told2 .given .1)) ∙ c .before .before .before .next-element .ensures .0 s 0 (sym h))
+      (c .level-at .ensures .0 s),
+  c .level-at .ensures .1,
+)
 
 returns-3 : tie.Need-returns-3
 unfolding found
-returns-3 c =
-    (λ s. let h = sym (ap found (c .before .before .before .before .i .given .1)) ∙ c .before .before .before .before .before .before .first-element .ensures .0 s in only-more s _ _ _ h _ (sym (ap found (c .enum-told3 .given .1)) ∙ c .before .before .next-element .ensures .0 s 0 (sym h)), tt)
+returns-3 c = (
+  λ s. let h = sym (ap found (c .before .before .before .before .i .given .1))
+      ∙ c .before .before .before .before .before .before .first-element .ensures .0 s in
+      only-more s _ _ _ h _ (sym (ap found (c .enum-told3 .given .1)) ∙ c .before .before .next-element .ensures .0 s 0 (sym h)),
+  tt,
+)
 
 pub only-level-spec : {M : Type 1} → statement M
 only-level-spec =

@@ -11,7 +11,9 @@ use Rattle.experiment.proofs.single.single_experiment_loop.Tie as tie
 
 parameters : (c : tie.After-as-loop-params)
     → let a = c .before .before .before .before .before .args in
-    found (c .as-loop-params .result) ≡ loopParams (a .file .now) (entriesIn (a .table .now) (a .used)) (fieldIn (a .file .now) (entriesIn (a .table .now) (a .used)) (a .i) (ascii "uLoopPars"))
+    found (c .as-loop-params .result)
+    ≡ loopParams (a .file .now) (entriesIn (a .table .now) (a .used))
+    (fieldIn (a .file .now) (entriesIn (a .table .now) (a .used)) (a .i) (ascii "uLoopPars"))
 unfolding ascii
 parameters c = c .as-loop-params .ensures .0 _ ∙ ap (loopParams _ _) (c .before .get .ensures .0)
 
@@ -56,19 +58,40 @@ enum-known-kind : tie.Need-enum-known-kind
 enum-known-kind c = search needs
 
 typed-loop-requires : tie.Need-typed-loop-requires
-typed-loop-requires c κs = (c .before .before .before .before .before .before .before .before .before .before .before .before .before .pre .0, c .before .before .before .before .before .before .before .before .before .before .before .before .before .pre .1, at-within _ _ _ (c .before .before .before .before .before .before .p .given .1) (c .before .before .before .before .before .before .before .before .as-loop-params .ensures .1))
+typed-loop-requires c κs = (
+  c .before .before .before .before .before .before .before .before .before .before .before .before .before .pre .0,
+  c .before .before .before .before .before .before .before .before .before .before .before .before .before .pre .1,
+  at-within _ _ _ (c .before .before .before .before .before .before .p .given .1)
+      (c .before .before .before .before .before .before .before .before .as-loop-params .ensures .1),
+)
 
 returns-2 : tie.Need-returns-2
 unfolding said saidBy found ascii
-returns-2 c = rw (← parameters (c .before .before .before .before .before .before .before), c .before .before .before .before .before .p .given .1, ← c .before .before .get-i64 .ensures, c .enum-told2 .given .1) refl
+returns-2 c = rw (
+  ← parameters (c .before .before .before .before .before .before .before),
+  c .before .before .before .before .before .p .given .1,
+  ← c .before .before .get-i64 .ensures,
+  c .enum-told2 .given .1,
+) refl
 
 returns-3 : tie.Need-returns-3
 unfolding said saidBy typed found ascii
-returns-3 c = rw (← parameters (c .before .before .before .before .before .before .before), c .before .before .before .before .before .p .given .1, ← c .before .before .get-i64 .ensures, c .enum-told3 .given .1) refl
+returns-3 c = rw (
+  ← parameters (c .before .before .before .before .before .before .before),
+  c .before .before .before .before .before .p .given .1,
+  ← c .before .before .get-i64 .ensures,
+  c .enum-told3 .given .1,
+) refl
 
 returns-4 : tie.Need-returns-4
 unfolding said saidBy found ascii
-returns-4 c = rw (← parameters (c .before .before .before .before .before .before .before .before .before), c .before .before .before .before .before .before .before .p .given .1, ← c .before .before .before .before .get-i64 .ensures, c .before .before .kind .given .1) (c .typed-loop .ensures)
+returns-4 c =
+    rw (
+      ← parameters (c .before .before .before .before .before .before .before .before .before),
+      c .before .before .before .before .before .before .before .p .given .1,
+      ← c .before .before .before .before .get-i64 .ensures,
+      c .before .before .kind .given .1,
+    ) (c .typed-loop .ensures)
 
 pub single-experiment-loop-spec : {M : Type 1} → statement M
 single-experiment-loop-spec =

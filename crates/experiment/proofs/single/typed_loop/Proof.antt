@@ -24,7 +24,9 @@ counted-loop-requires c κs = search needs
 
 returns-3 : tie.Need-returns-3
 unfolding typed
-returns-3 c = rw (c .before .before .before .before .if1 .left, ← c .before .before .before .is-supported .ensures, c .before .before .if2 .left) (c .counted-loop .ensures ∙ ap (counted _) (c .before .loop-count .ensures))
+returns-3 c =
+    rw (c .before .before .before .before .if1 .left, ← c .before .before .before .is-supported .ensures, c .before .before .if2 .left)
+    (c .counted-loop .ensures ∙ ap (counted _) (c .before .loop-count .ensures))
 
 pub typed-loop-spec : {M : Type 1} → statement M
 typed-loop-spec =

@@ -9,7 +9,9 @@ use Rattle.experiment.proofs.single.valid_of.Statement.{statement}
 use Rattle.experiment.proofs.single.valid_of.Tie as tie
 
 inside : (c : tie.After-known-told2) → c .before .v .given .0 .0 < c .before .before .before .before .before .before .before .before .args .used
-inside c = inside-list _ _ _ (c .before .v .given .1) (inside-is _ _ _ (c .before .before .before .before .f .given .1) (c .before .before .before .before .before .before .before .before .pre .1))
+inside c =
+    inside-list _ _ _ (c .before .v .given .1)
+    (inside-is _ _ _ (c .before .before .before .before .f .given .1) (c .before .before .before .before .before .before .before .before .pre .1))
 
 enum-known-f : tie.Need-enum-known-f
 enum-known-f c = search needs

@@ -10,7 +10,9 @@ use Rattle.experiment.proofs.single.xy_point_count.Statement.{statement
 use Rattle.experiment.proofs.single.xy_point_count.Tie as tie
 
 points : (c : tie.After-size-of)
-    → let a = c .before .before .before .before .before .args in c .size-of .result ≡ sizeOf (a .file .now) (entriesIn (a .table .now) (a .used)) (fieldIn (a .file .now) (entriesIn (a .table .now) (a .used)) (a .p) (ascii "Points"))
+    → let a = c .before .before .before .before .before .args in
+    c .size-of .result ≡ sizeOf (a .file .now) (entriesIn (a .table .now) (a .used))
+    (fieldIn (a .file .now) (entriesIn (a .table .now) (a .used)) (a .p) (ascii "Points"))
 unfolding ascii
 points c = c .size-of .ensures ∙ ap (sizeOf _ _) (c .before .get .ensures .0)
 
@@ -46,7 +48,9 @@ valid-of-requires c κs = search needs
 
 returns-2 : tie.Need-returns-2
 unfolding ascii
-returns-2 c = some-points _ _ _ _ _ _ (points (c .before .before .before .before)) (c .before .before .before .if1 .left) (c .valid-of .ensures ∙ ap (validOf _ _ _) (c .before .get2 .ensures .0))
+returns-2 c =
+    some-points _ _ _ _ _ _ (points (c .before .before .before .before)) (c .before .before .before .if1 .left)
+    (c .valid-of .ensures ∙ ap (validOf _ _ _) (c .before .get2 .ensures .0))
 
 pub xy-point-count-spec : {M : Type 1} → statement M
 xy-point-count-spec =
