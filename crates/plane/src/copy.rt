@@ -6,13 +6,19 @@ ghost use lib.ListN.{length, getD};
 ghost use lib.Seq.{sets};
 ghost use Rattle.format.specs.Bytes.{over};
 ghost use Rattle.plane.specs.Pieces.{pieces, rows};
-ghost use Rattle.plane.specs.Parts.{Alike};
+ghost use Rattle.plane.specs.Parts.{Alike, withRow};
 
 // How many parts of a long run are copied side by side.
 const PARTS: usize = 6;
 
 // How many bytes of a part are copied at once.
 const BLOCK: usize = 16;
+
+// How many bytes of a row are copied at once.
+const WIDE: usize = 64;
+
+// Rows of fewer bytes are copied one after another.
+const LONG_ROW: usize = 512;
 
 // Copies src into dst, which is as long.
 fn copy_bytes(src: &[u8], dst: &mut [u8])
@@ -80,6 +86,65 @@ fn copy_with_lead(src: &[u8], dst: &mut [u8], lead: usize)
     }
     copy_bytes(&src[0..lead], &mut dst[0..lead]);
     copy_run(&src[lead..], &mut dst[lead..]);
+}
+
+// Copies a wide block into dst, as a block is copied.
+fn copy_wide(src: &[u8], dst: &mut [u8])
+    requires { ⌜ (length (now src) ≡ 64) × (length (now dst) ≡ 64) ⌝ }
+    ensures { λ _. ⌜ now (dst .exit) ≡ now (src .entry) ⌝ }
+{
+    let mut block = [0; WIDE];
+    copy_bytes(src, &mut block);
+    copy_bytes(&block, dst);
+}
+
+// Copies src into dst, which is as long: a wide block at its start, then such blocks from `lead` on, and last the block with which it ends. Blocks may overlap:
+// with the right lead memory takes those between in one piece each, and no byte is copied by itself.
+fn copy_long(src: &[u8], dst: &mut [u8], lead: usize)
+    requires { ⌜ (length (now src) ≡ length (now dst)) × (64 ≤ length (now dst)) × (lead ≤ 64) ⌝ }
+    ensures { λ _. ⌜ now (dst .exit) ≡ now (src .entry) ⌝ }
+{
+    copy_wide(&src[0..WIDE], &mut dst[0..WIDE]);
+    let mut x = lead;
+    while WIDE <= dst.len() - x {
+        let e = x + WIDE;
+        copy_wide(&src[x..e], &mut dst[x..e]);
+        x = e;
+    }
+    let last = dst.len() - WIDE;
+    copy_wide(&src[last..], &mut dst[last..]);
+}
+
+// Copies the first `w` bytes of row k, of `stride` bytes, to the place of row k among rows of `w` bytes. `lead` bytes into dst memory takes a block in one piece.
+fn copy_row(src: &[u8], dst: &mut [u8], stride: usize, w: usize, k: usize, lead: usize)
+    requires { ⌜ (64 ≤ w) × (w ≤ stride) × (k * stride + stride ≤ length (now src)) × (k * w + w ≤ length (now dst)) ⌝ }
+    ensures { λ _. ⌜ now (dst .exit) ≡ withRow (now (src .entry)) stride w k (now (dst .entry)) ⌝ }
+{
+    let from = k * stride;
+    let to = k * w;
+    let e = from + w;
+    let f = to + w;
+    copy_long(
+        &src[from..e],
+        &mut dst[to..f],
+        lead % BLOCK + BLOCK - to % BLOCK,
+    );
+}
+
+// Copies the first `w` bytes of each of `count` rows of `stride` bytes: a row of the first half and one of the second by turns, which memory serves faster than
+// one after another. The row in the middle of an odd count is in both.
+fn copy_apart(src: &[u8], dst: &mut [u8], stride: usize, w: usize, count: usize, lead: usize)
+    requires { ⌜ (64 ≤ w) × (w ≤ stride) × (count * stride ≤ length (now src)) × (count * w ≤ length (now dst)) ⌝ }
+    ensures { λ _. ⌜ now (dst .exit) ≡ over (pieces (now (src .entry)) 0 stride w count) (now (dst .entry)) ⌝ }
+{
+    let half = count / 2;
+    let turns = count - half;
+    let mut k = 0;
+    while k < turns {
+        copy_row(src, dst, stride, w, k, lead);
+        copy_row(src, dst, stride, w, half + k, lead);
+        k += 1;
+    }
 }
 
 // Copies src into dst, which is as long: a sample of 16 or 32 bits in one piece, as a block is.
@@ -186,7 +251,7 @@ fn copy_spread(src: &[u8], dst: &mut [u8], at: usize, step: usize, size: usize, 
     copy_pieces(src, dst, at, step, size, count);
 }
 
-// Copies the first `w` bytes of each of `count` rows of `stride` bytes, at once where a row has no others, `lead` of them first.
+// Copies the first `w` bytes of each of `count` rows of `stride` bytes: at once where a row has no others, `lead` of them first; else row by row.
 pub fn copy_whole(src: &[u8], dst: &mut [u8], stride: usize, w: usize, count: usize, lead: usize)
     requires { ⌜ (w ≤ stride) × (count * stride ≤ length (now src)) × (count * w ≤ length (now dst)) ⌝ }
     ensures { λ _. ⌜ now (dst .exit) ≡ over (pieces (now (src .entry)) 0 stride w count) (now (dst .entry)) ⌝ }
@@ -196,7 +261,11 @@ pub fn copy_whole(src: &[u8], dst: &mut [u8], stride: usize, w: usize, count: us
         copy_with_lead(&src[0..n], &mut dst[0..n], lead);
         return;
     }
-    copy_pieces(src, dst, 0, stride, w, count);
+    if w < LONG_ROW {
+        copy_pieces(src, dst, 0, stride, w, count);
+        return;
+    }
+    copy_apart(src, dst, stride, w, count, lead);
 }
 
 // Copies one component of each row: a row is `stride` bytes, and its `width` samples of `size` bytes are `step` bytes apart.
