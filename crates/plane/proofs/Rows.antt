@@ -40,7 +40,8 @@ module _ (s : List ℕ) (at step size : ℕ) (apart : at + size ≤ step) where
   piece-more d₀ d q k from to hk ef et ed eq =
       let q₂ : q ≡ part s (at + k * step) size = eq ∙ rw (add-sub-cancel-left, ef) refl in
       rw (add-sub-cancel-left, ed, add-one)
-      (over-more (pieces s at step size k) q d₀ to size (pieces-length k (omega arith) ∙ sym et) (ap length q₂ ∙ part-length s (at + k * step) size (omega arith))
+      (over-more (pieces s at step size k) q d₀ to size (pieces-length k (omega arith) ∙ sym et)
+      (ap length q₂ ∙ part-length s (at + k * step) size (omega arith))
       ∙ ap (λ (x : List ℕ). over (pieces s at step size k ++ x) d₀) q₂)
 
 -- the pieces of a part are pieces of the whole
@@ -150,8 +151,8 @@ module _ (s : List ℕ) (at stride step size width : ℕ) (apart : at + size ≤
       rw (length-append, e, row-length k h₂, suc-mul)
 
   -- the bytes of d behind k rows, of w bytes each, replaced by the next row; m is what stood there
-  pub row-more : (d₀ d q m : List ℕ) (k from to e w f : ℕ) → k * stride + stride ≤ length s → from ≡ k * stride → e ≡ from + stride → w ≡ width * size → to ≡ k * w
-      → f ≡ to + w → length m ≡ w → d ≡ over (rows s at stride step size width k) d₀
+  pub row-more : (d₀ d q m : List ℕ) (k from to e w f : ℕ) → k * stride + stride ≤ length s → from ≡ k * stride → e ≡ from + stride
+      → w ≡ width * size → to ≡ k * w → f ≡ to + w → length m ≡ w → d ≡ over (rows s at stride step size width k) d₀
       → q ≡ over (pieces (take (e - from) (drop from s)) at step size width) m → putMid to (f - to) d q ≡ over (rows s at stride step size width (k + 1)) d₀
   unfolding rows part
   row-more d₀ d q m k from to e w f hk ef ee ew et ff em ed eq =

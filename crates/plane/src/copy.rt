@@ -115,7 +115,8 @@ fn copy_long(src: &[u8], dst: &mut [u8], lead: usize)
     copy_wide(&src[last..], &mut dst[last..]);
 }
 
-// Copies the first `w` bytes of row k, of `stride` bytes, to the place of row k among rows of `w` bytes. `lead` bytes into dst memory takes a block in one piece.
+// Copies the first `w` bytes of row k, of `stride` bytes, to the place of row k among rows of `w` bytes. `lead` bytes into dst memory takes a block in one
+// piece.
 fn copy_row(src: &[u8], dst: &mut [u8], stride: usize, w: usize, k: usize, lead: usize)
     requires { ⌜ (64 ≤ w) × (w ≤ stride) × (k * stride + stride ≤ length (now src)) × (k * w + w ≤ length (now dst)) ⌝ }
     ensures { λ _. ⌜ now (dst .exit) ≡ withRow (now (src .entry)) stride w k (now (dst .entry)) ⌝ }

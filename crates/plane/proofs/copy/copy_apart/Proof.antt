@@ -74,7 +74,8 @@ returns c =
     let l = c .before .loop in
     let s = c .before .before .before .before in
     let a = s .args in
-    turns-all (now (a .src)) (now (a .dst)) (l .dst) (a .stride) (a .w) (a .count) (a .count / 2) (l .k) (l .inv .2) (s .pre .1) (s .pre .2) (omega arith) (omega arith)
+    let half = a .count / 2 in
+    turns-all (now (a .src)) (now (a .dst)) (l .dst) (a .stride) (a .w) (a .count) half (l .k) (l .inv .2) (s .pre .1) (s .pre .2) (omega arith) (omega arith)
 
 pub copy-apart-spec : {M : Type 1} → statement M
 copy-apart-spec =
