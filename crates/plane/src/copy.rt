@@ -4,7 +4,7 @@ ghost use mathlib.Core.List.{[], _∷_};
 ghost use Prim.Native.Nat.{_+_, _*_, _≤_, _<_};
 ghost use lib.ListN.{length, getD};
 ghost use lib.Seq.{sets};
-ghost use Rattle.format.specs.Bytes.{over};
+ghost use Rattle.format.specs.Bytes.{part, over};
 ghost use Rattle.plane.specs.Pieces.{pieces, rows};
 ghost use Rattle.plane.specs.Parts.{Alike, withRow};
 
@@ -197,20 +197,66 @@ fn copy_four(src: &[u8], dst: &mut [u8], from: usize, step: usize, to: usize)
     dst[to + 3] = src[from + 3 * step];
 }
 
-// Copies `count` bytes, at `at`, at + step, .. in src, to the front of dst: four at a time, and then the rest.
-fn copy_singles(src: &[u8], dst: &mut [u8], at: usize, step: usize, count: usize)
-    requires { ⌜ (at + 1 ≤ step) × (count * step ≤ length (now src)) × (count ≤ length (now dst)) ⌝ }
-    ensures { λ _. ⌜ now (dst .exit) ≡ over (pieces (now (src .entry)) at step 1 count) (now (dst .entry)) ⌝ }
+// Copies a sample of 16 bits, at `from` in src, to the place `to` of dst: both bytes are read before one is written, so the compiler copies them in one piece.
+fn copy_word(src: &[u8], dst: &mut [u8], from: usize, to: usize)
+    requires { ⌜ (from + 2 ≤ length (now src)) × (to + 2 ≤ length (now dst)) ⌝ }
+    ensures { λ _. ⌜ now (dst .exit) ≡ sets (now (dst .entry)) to (part (now (src .entry)) from 2) ⌝ }
+{
+    let first = src[from];
+    let second = src[from + 1];
+    dst[to] = first;
+    dst[to + 1] = second;
+}
+
+// Copies four of them, at `from`, from + step, .. in src, as four bytes are.
+fn copy_four_words(src: &[u8], dst: &mut [u8], from: usize, step: usize, to: usize)
+    requires { ⌜ (from + 3 * step + 2 ≤ length (now src)) × (to + 8 ≤ length (now dst)) ⌝ }
+    ensures { λ _. ⌜ now (dst .exit) ≡ sets (now (dst .entry)) to (pieces (now (src .entry)) from step 2 4) ⌝ }
+{
+    copy_word(src, dst, from, to);
+    copy_word(src, dst, from + step, to + 2);
+    copy_word(src, dst, from + 2 * step, to + 4);
+    copy_word(src, dst, from + 3 * step, to + 6);
+}
+
+// Copies a sample of one byte or two, at `from` in src, to the place `to` of dst.
+fn copy_sample(src: &[u8], dst: &mut [u8], from: usize, size: usize, to: usize)
+    requires { ⌜ (1 ≤ size) × (size ≤ 2) × (from + size ≤ length (now src)) × (to + size ≤ length (now dst)) ⌝ }
+    ensures { λ _. ⌜ now (dst .exit) ≡ sets (now (dst .entry)) to (part (now (src .entry)) from size) ⌝ }
+{
+    if size == 1 {
+        dst[to] = src[from];
+        return;
+    }
+    copy_word(src, dst, from, to);
+}
+
+// Copies four of them, at `from`, from + step, .. in src.
+fn copy_four_samples(src: &[u8], dst: &mut [u8], from: usize, step: usize, size: usize, to: usize)
+    requires { ⌜ (1 ≤ size) × (size ≤ 2) × (from + 3 * step + size ≤ length (now src)) × (to + 4 * size ≤ length (now dst)) ⌝ }
+    ensures { λ _. ⌜ now (dst .exit) ≡ sets (now (dst .entry)) to (pieces (now (src .entry)) from step size 4) ⌝ }
+{
+    if size == 1 {
+        copy_four(src, dst, from, step, to);
+        return;
+    }
+    copy_four_words(src, dst, from, step, to);
+}
+
+// Copies `count` of them, at `at`, at + step, .. in src, to the front of dst: four at a time, and then the rest.
+fn copy_by_four(src: &[u8], dst: &mut [u8], at: usize, step: usize, size: usize, count: usize)
+    requires { ⌜ (1 ≤ size) × (size ≤ 2) × (at + size ≤ step) × (count * step ≤ length (now src)) × (count * size ≤ length (now dst)) ⌝ }
+    ensures { λ _. ⌜ now (dst .exit) ≡ over (pieces (now (src .entry)) at step size count) (now (dst .entry)) ⌝ }
 {
     let mut k = 0;
     let mut from = at;
     while 4 <= count - k {
-        copy_four(src, dst, from, step, k);
+        copy_four_samples(src, dst, from, step, size, k * size);
         from += 4 * step;
         k += 4;
     }
     while k < count {
-        dst[k] = src[at + k * step];
+        copy_sample(src, dst, at + k * step, size, k * size);
         k += 1;
     }
 }
@@ -236,7 +282,8 @@ fn copy_halves(src: &[u8], dst: &mut [u8], at: usize, count: usize)
     }
 }
 
-// Copies `count` samples of `size` bytes, at `at`, at + step, .. in src, to the front of dst.
+// Copies `count` samples of `size` bytes, at `at`, at + step, .. in src, to the front of dst. Every second sample of 16 bits goes piece by piece, which the
+// compiler makes many at once of.
 fn copy_spread(src: &[u8], dst: &mut [u8], at: usize, step: usize, size: usize, count: usize)
     requires { ⌜ (at + size ≤ step) × (count * step ≤ length (now src)) × (count * size ≤ length (now dst)) ⌝ }
     ensures { λ _. ⌜ now (dst .exit) ≡ over (pieces (now (src .entry)) at step size count) (now (dst .entry)) ⌝ }
@@ -246,7 +293,11 @@ fn copy_spread(src: &[u8], dst: &mut [u8], at: usize, step: usize, size: usize, 
             copy_halves(src, dst, at, count);
             return;
         }
-        copy_singles(src, dst, at, step, count);
+        copy_by_four(src, dst, at, step, 1, count);
+        return;
+    }
+    if size == 2 && step != 4 {
+        copy_by_four(src, dst, at, step, 2, count);
         return;
     }
     copy_pieces(src, dst, at, step, size, count);
