@@ -139,7 +139,8 @@ static void ask_plane(void)
 
 static void ask_tree(void)
 {
-    static const char *const names[] = { "ImageAttributesLV!", "ImageMetadataLV!", "ImageCalibrationLV|0!", "ImageMetadataSeqLV|0!", "ImageDataSeq|0!", "", "!" };
+    static const char *const names[] = { "ImageAttributesLV!",    "ImageMetadataLV!", "ImageCalibrationLV|0!",
+                                         "ImageMetadataSeqLV|0!", "ImageDataSeq|0!",  "", "!" };
     const char *s = names[below(sizeof names / sizeof *names)];
     lend_copy(&name, (const uint8_t *)s, strlen(s));
     lend(&table, table_len(), 0x77);
@@ -187,7 +188,8 @@ static void ask_border(void)
 {
     lend(&table, table_len(), 0x77);
     lend(&samples, below(4) ? 40000 : below(9000), 0x77);
-    uint32_t n = told("border", nd2_read_plane(file.at, file.len, table.at, table.len, below(26), 0, below(3), below(12), samples.at, samples.len), &table, &samples);
+    uint64_t point = below(26), c = below(3), z = below(12);
+    uint32_t n = told("border", nd2_read_plane(file.at, file.len, table.at, table.len, point, 0, c, z, samples.at, samples.len), &table, &samples);
     if (!all(table.at, table.len, 0))
         fail("the border left the table", n);
     if (n != 0 && !all(samples.at, samples.len, 0x77))

@@ -1,4 +1,5 @@
-//! Compiles the gather in C with the system's compiler. Where there is none, the bench does without it.
+//! Compiles the gather in C with the system's compiler. Where there is none, the bench does without it. And says which folder
+//! the proved reader's library was linked from.
 
 use std::env;
 use std::path::{Path, PathBuf};
@@ -12,6 +13,9 @@ fn main() {
     println!("cargo:rerun-if-changed={SOURCE}");
     println!("cargo:rerun-if-env-changed=CC");
     println!("cargo:rustc-check-cfg=cfg(gather)");
+    if let Ok(folder) = env::var("DEP_ND2_FOLDER") {
+        println!("cargo:rustc-env=ND2_LIBRARY_FOLDER={folder}");
+    }
     let Some(folder) = env::var_os("OUT_DIR") else {
         return;
     };

@@ -42,7 +42,7 @@ pub fn product_over(x: u64, y: u64, z: u64, most: u64) -> bool
     most / x / y < z
 }
 
-// Bits that no sample has: not 8, 16 or 32.
+// Bits that no sample has: others than 8, 16 and 32.
 pub fn bad_bits(bits: u64) -> bool
     ensures { λ r. ⌜ r ≡ badBits bits ⌝ }
 {

@@ -15,7 +15,7 @@ ghost use Rattle.format.specs.Refused.Border.{BorderFirst};
 ghost use Rattle.format.specs.Sentences.{Refuses, Different, PlaneCopied, ReadsExactly, FrameNamed};
 ghost use Rattle.format.specs.declared.Summary.{Summary};
 
-// Opens a file and reads the plane of component c at a point; 0, or the number of the first refusal. The table is all zero afterwards.
+// Opens a file and reads the plane of component c at a point; 0, or the number of the first refusal. It leaves zeros in the table.
 #[no_mangle]
 pub extern "C" fn nd2_read_plane(
     file: &[u8],

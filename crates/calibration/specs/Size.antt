@@ -8,7 +8,7 @@ use Rattle.format.specs.Values.{field, fieldIn, asLevel, bind}
 use Rattle.format.specs.Numbers.{float}
 use Rattle.format.specs.declared.Entry.{Entry}
 
--- "SLxCalibration, dCalibration"
+-- dCalibration in the level SLxCalibration, as a double
 abbrev pub sizeIn : List ℕ → List Entry → Option Float
 unfolding ascii
 sizeIn s es = bind (asLevel (field s es 0 (ascii "SLxCalibration"))) λ i. bind (fieldIn s es i (ascii "dCalibration")) float

@@ -10,7 +10,7 @@ use Rattle.format.specs.Loops.{countField}
 use Rattle.format.specs.Calibration.{spanStep}
 use Rattle.format.specs.declared.Entry.{Entry}
 
--- "uiCount .. dZHigh to dZLow" of the level p
+-- the step from dZLow to dZHigh in uiCount values, as the level p has them
 abbrev pub spanIn : List ℕ → List Entry → ℕ → Option Float
 unfolding ascii
 spanIn s es p = spanStep (countField s es p) (bind (fieldIn s es p (ascii "dZHigh")) float) (bind (fieldIn s es p (ascii "dZLow")) float)

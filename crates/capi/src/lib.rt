@@ -1,4 +1,4 @@
-// The C interface: every call over numbers and byte slices, with summaries and channel records as lent bytes. include/nd2.h declares it.
+// The C interface: every call with plain numbers and slices of bytes, in which summaries and channel records stand too. include/nd2.h declares it.
 use channels::planes::Planes;
 use channels::planes::next_component;
 use channels::prepare;
@@ -46,7 +46,7 @@ ghost use Rattle.capi.specs.RowBytes.{RowRecorded};
 ghost use Rattle.capi.specs.OnBytes.{openOn, planeOn, sheetOn, treeOn, channelRow, channelsOn, registerOn, picometresOn};
 ghost use Rattle.capi.specs.Said.{Said, WhereSaid, Unsaid, AcceptedOn};
 
-// Opens a file, and stores its summary: 0, or the number of the first refusal and a summary of zeros. The table is all zero afterwards.
+// Opens a file, and stores its summary: 0, or the number of the first refusal and a summary of zeros. It leaves zeros in the table.
 #[no_mangle]
 pub extern "C" fn nd2_open(file: &[u8], table: &mut [u8], summary: &mut [u8]) -> u32
     ensures number { λ r. ⌜ r ≡ openOn (now (file .entry)) (now (table .entry)) (now (summary .entry)) ⌝ }
@@ -210,7 +210,7 @@ fn put_records(file: &[u8], table: &[u8], first: Planes, row: &mut [u8], count: 
     }
 }
 
-// The channels of a summary, into the lent bytes; the table is all zero afterwards.
+// The channels of a summary, into the lent bytes, and zeros into the table.
 fn put_row(file: &[u8], u: Summary, table: &mut [u8], row: &mut [u8]) -> u32
     ensures number { λ r. ⌜ r ≡ channelRow (now (file .entry)) u (now (table .entry)) (length (now (row .entry))) .number ⌝ }
     ensures row { λ _. ⌜ now (row .exit) ≡ channelRow (now (file .entry)) u (now (table .entry)) (length (now (row .entry))) .buffer ⌝ }
@@ -225,7 +225,7 @@ fn put_row(file: &[u8], u: Summary, table: &mut [u8], row: &mut [u8]) -> u32
     p.number
 }
 
-// A record for each component, surplus ones zero; 0, or the number of the first refusal and a row of zeros. The table is all zero afterwards.
+// A record for each component, zeros behind these; 0, or the number of the first refusal and a row of zeros. It leaves zeros in the table.
 #[no_mangle]
 pub extern "C" fn nd2_channels(file: &[u8], summary: &[u8], table: &mut [u8], row: &mut [u8]) -> u32
     ensures number { λ r. ⌜ r ≡ channelsOn (now (file .entry)) (now (summary .entry)) (now (table .entry)) (length (now (row .entry))) .number ⌝ }
@@ -270,7 +270,7 @@ pub extern "C" fn nd2_register(file: &[u8], summary: &[u8], buffer: &mut [u8]) -
     refusal::SUMMARY
 }
 
-// The pixel size of a file in whole picometres; 0, or the number of the first refusal and 0 picometres. The table is all zero afterwards.
+// The pixel size of a file in whole picometres; 0, or the number of the first refusal and 0 picometres. It leaves zeros in the table.
 #[no_mangle]
 pub extern "C" fn nd2_picometres(
     file: &[u8],

@@ -134,7 +134,7 @@ fn ended(lent: &mut [u8], number: u32, channel: Channel) -> OneChannel
     OneChannel { number, channel }
 }
 
-// The number of a channels call with a row of `row` records, and record i that it leaves there. The table is zero afterwards.
+// The number of a channels call with a row of `row` records, and record i that it leaves there. It leaves zeros in the table.
 pub fn channel(file: &[u8], u: Summary, table: &mut [u8], row: usize, i: usize) -> OneChannel
     ensures number { λ r. ⌜ ((cs : List Channel) → length cs ≡ row → r .number ≡ channelsCall (now (file .entry)) u (now (table .entry)) cs .number) ⌝ }
     ensures record { λ r. ⌜ ((cs : List Channel) → length cs ≡ row
@@ -176,7 +176,7 @@ fn fill(file: &[u8], table: &mut [u8], first: Planes, row: &mut [Channel])
     clear(table);
 }
 
-// The channels of a file: 0, or the number of the first refusal. A record for each component; surplus records are empty, and all of them on a refusal.
+// The channels of a file: 0, or the number of the first refusal. A record for each component, and empty ones behind these; on a refusal all are empty.
 pub fn channels(file: &[u8], u: Summary, table: &mut [u8], row: &mut [Channel]) -> u32
     ensures number { λ r. ⌜ r ≡ channelsCall (now (file .entry)) u (now (table .entry)) (now (row .entry)) .number ⌝ }
     ensures table { λ _. ⌜ now (table .exit) ≡ channelsCall (now (file .entry)) u (now (table .entry)) (now (row .entry)) .table ⌝ }

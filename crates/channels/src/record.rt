@@ -56,7 +56,7 @@ fn described(f: Field) -> Channel
     }
 }
 
-// The record with a colour, its low byte red: none where it is absent or over u32.
+// The record with a colour, its lowest byte as red: none where it cannot be read below 2^32.
 fn colored(c: Channel, color: Natural) -> Channel
     ensures { λ r. ⌜ r ≡ withColor (below32 (natural color)) (c .named) (c .name) (c .units) ⌝ }
 {

@@ -1,4 +1,4 @@
-// The map's data, scanned in place: it is well formed or refused, and the last entry of a name wins.
+// The map's data, scanned in place: it is well formed or refused, and of several entries with one name the last counts.
 use super::names::is_at;
 use super::names::is_end;
 use cursor::le8;
@@ -148,7 +148,7 @@ pub enum Lookup {
     Broken,
 }
 
-// One pass over the map's data: its refusal, or the last entry of a name.
+// One pass over the map's data: its refusal, or what the last entry with the name says.
 pub fn look_up(map: &[u8], name: &[u8]) -> Lookup
     ensures { λ r. ⌜ lookupOf r ≡ findIn (now (map .entry)) (now (name .entry)) ⌝ }
 {

@@ -51,6 +51,6 @@ startBy (Got k a) (Got n c) = some (record { kind = k; units = n; name = c })
 startBy (Got k a) Cut = none
 startBy Cut w = none
 
--- "Fewer than 2 bytes at a record's start end that level quietly": the bytes at a place of a slice, and the cursor after them
+-- the two bytes at a place of a slice, and the cursor after them; none where so many are not left, which ends a level
 unfoldable pub startAt : List ℕ → ℕ → Option Opening
 startAt s a = cond (ltb (length s) (a + 2)) none (some (record { kind = getD s a 0; units = getD s (a + 1) 0; name = to (a + 2) (length s) }))

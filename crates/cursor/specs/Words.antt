@@ -1,4 +1,4 @@
--- What stands at a cursor. "Each reading step gives back its value and the place after it."
+-- What stands at a cursor: a read gives the number there and the cursor behind it.
 use Prim.Native.Nat.{ℕ, _+_, _-_, _≤_}
 use mathlib.Core.Path.{_≡_}
 use mathlib.Core.Bool.{cond}

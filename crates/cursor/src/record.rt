@@ -91,7 +91,7 @@ fn text_units(d: &[u8], at: usize, n: usize) -> usize
 }
 
 impl Cursor {
-    // A text: to its zero unit, or until under 2 bytes remain.
+    // A text: up to its zero unit, or else all whole units that are left.
     pub fn read_clx_string(self, d: &[u8]) -> Leaf
         requires { ⌜ Within self (now d) ⌝ }
         ensures { λ r. ⌜ LeafRead (now (d .entry)) (self .end) (textValue (now (d .entry)) (self .at) (self .end)) r ⌝ }
@@ -182,7 +182,7 @@ impl Cursor {
         }
     }
 
-    // The header of the level whose record begins at `start`: how many items, and the length from `start` to the children's end.
+    // The header of the level whose record begins at `start`: how many items, and how far behind `start` the children end.
     pub fn read_level(self, d: &[u8], start: usize) -> Level
         requires { ⌜ Within self (now d) × (start ≤ self .at) ⌝ }
         ensures { λ r. ⌜ LevelRead (now (d .entry)) start self r ⌝ }

@@ -15,7 +15,7 @@ saidOf single.Nothing = nothing
 saidOf (single.Wrong n) = wrong n
 saidOf (single.Loop t c) = loop t c
 
--- "pPlanes.uiCount"
+-- the uiCount in pPlanes
 abbrev pub planesOf : List ℕ → List Entry → ℕ → Option ℕ
 unfolding ascii
 planesOf s es p = bind (asLevel (fieldIn s es p (ascii "pPlanes"))) λ q. bind (fieldIn s es q (ascii "uiCount")) unsigned

@@ -82,7 +82,7 @@ fn has_axis(loops: [Loop; 3], depth: u64, axis: Axis) -> bool
     false
 }
 
-// A loop more, judged as the next in order: a custom one is refused, and a second one of an axis.
+// A loop more, judged as the next in order: a custom one is refused, and one on an axis that came before.
 fn push(kept: Kept, kind: u64, count: u64, nesting: u64) -> Kept
     requires { ⌜ Reached kept × (nesting < 64) ⌝ }
     ensures { λ r. ⌜ ((bs : List Built) → Stands kept bs → Stands r (record { kind = kind; count = count; nesting = nesting } ∷ bs)) ⌝ }

@@ -1,4 +1,4 @@
-// The loops of an experiment: its tree is walked, and the appended loops are judged in order.
+// The loops of an experiment: its tree is walked, and each loop that is appended is judged.
 ghost use mathlib.Core.Path.{_≡_};
 ghost use mathlib.Core.Bool.{cond};
 ghost use mathlib.Core.List.{List};

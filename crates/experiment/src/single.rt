@@ -66,7 +66,7 @@ fn only_level(table: &[u8], used: usize, parent: usize) -> Found
     }
 }
 
-// The parameters: a level, or a list of just one level.
+// The level of the parameters: the field itself, or the only element of a list.
 pub fn as_loop_params(table: &[u8], used: usize, f: Field) -> Found
     requires { ⌜ Rows (now table) used × FieldInside used f ⌝ }
     ensures { λ r. ⌜ ((s : List ℕ) → found r ≡ loopParams s (entriesIn (now (table .entry)) used)
@@ -101,7 +101,7 @@ pub fn ui_count(file: &[u8], table: &[u8], used: usize, i: usize) -> u64
     or_zero(get_u64(file, table, used, i + 1, b"uiCount"))
 }
 
-// 1 for a value whose unsigned reading is there and not 0, else 0.
+// 1 for a value that reads unsigned as something else than 0, else 0.
 fn is_truthy(file: &[u8], table: &[u8], used: usize, i: usize) -> u64
     requires { ⌜ Holds (now file) (now table) used × (i < used) ⌝ }
     ensures { λ r. ⌜ (r ≡ cond (eqb (orZero (unsigned (valueAt (now (file .entry)) (entriesIn (now (table .entry)) used) i))) 0) 0 1) × (r ≤ 1) ⌝ }

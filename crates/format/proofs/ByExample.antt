@@ -14,7 +14,7 @@ pub mod DoubleEdges
 pub mod DoubleSizes
 -- a sheet of 3 × 2 samples, and what is not quite it
 pub mod OneSheet
--- "Both edges": the starred lines
+-- Document 01, Both edges: the starred lines
 pub mod StarredLines
 -- a file of 728 bytes is joined to a summary, and has a plane
 pub mod Tiny

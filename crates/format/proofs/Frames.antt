@@ -1,4 +1,4 @@
--- "Loops": the frame numbers.
+-- Document 01, Loops: the frame numbers.
 -- different places are of different frames
 pub mod Places
 -- the frame numbers in range are those below the count, each of one triple

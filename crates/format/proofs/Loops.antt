@@ -1,4 +1,4 @@
--- "Loops": the walk through the experiment's levels.
+-- Document 01, Loops: the walk through the experiment's levels.
 -- what the grammar says of one level is what is read of it
 pub mod OneLevel
 -- the levels below are deeper, so that a walk of 64 is never cut

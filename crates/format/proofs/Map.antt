@@ -1,4 +1,4 @@
--- "Map and chunks".
+-- Document 01, Map and chunks.
 -- the grammar's chunk is the one that is read, and each way that it is refused
 pub mod Chunks
 -- the grammar's map is the one that is read; the last entry of a name

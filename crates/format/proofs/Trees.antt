@@ -1,4 +1,4 @@
--- "Trees": records and their entries.
+-- Document 01, Trees: records and their entries.
 -- what holds of both readings holds of the one that a test picks
 pub mod PickedReading
 -- the grammar's trees are those that are read

@@ -1,4 +1,4 @@
--- "Trees": what the entries mean.
+-- Document 01, Trees: what the entries mean.
 -- what is computed and what the rules give, for the entries of one tree: the statement
 pub mod Meaning
 -- the value of an entry that is no level

@@ -21,7 +21,7 @@ unfoldable pub orRefuse : {A : Type 0} → Option A → ℕ → Answer A
 orRefuse none n = refused n
 orRefuse (some a) n = given a
 
--- a call's number: "0 when accepted"
+-- a call's number: that of its refusal, and 0 where it is accepted
 unfoldable pub numberOf : {A : Type 0} → Answer A → ℕ
 numberOf (refused n) = n
 numberOf (given a) = 0

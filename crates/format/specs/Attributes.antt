@@ -1,4 +1,4 @@
--- "Attributes": ImageAttributesLV!, level SLxImageAttributes.
+-- Document 01, Attributes: the sizes of a frame, in the level SLxImageAttributes of the tree in ImageAttributesLV!.
 use Prim.Native.Nat.{ℕ, _*_, _/_}
 use mathlib.Core.Bool.{Bool, false, not, _||_}
 use mathlib.Core.Option.{Option, none, some}
@@ -17,26 +17,26 @@ use Rattle.format.specs.declared.Attributes.{Attributes}
 abbrev pub sampleBytes : ℕ → ℕ
 sampleBytes b = b / 8
 
--- "width × components × sample bytes": the least that "row bytes", the stride, may be
+-- the bytes of the samples of a row: the least that the stride may be
 abbrev pub leastRow : Attributes → ℕ
 leastRow a = a .width * a .components * sampleBytes (a .bits)
 
--- "the plane product width × height × sample bytes"
+-- the bytes of a plane, one component of a frame
 abbrev pub planeBytes : Attributes → ℕ
 planeBytes a = a .width * a .height * sampleBytes (a .bits)
 
--- "14: a zero size, over 1,024 components, row bytes below width × components × sample bytes, or that .. past 2^64 − 1". The plane product is judged
--- after the loops.
+-- 14: a size is 0, there are more than 1,024 components, or the samples of a row have more bytes than 64 bits count or than the stride. The bytes of a plane
+-- are judged after the loops.
 unfoldable pub badShape : Attributes → Bool
 badShape a =
     eqb (a .width) 0 || eqb (a .height) 0 || eqb (a .components) 0 || ltb 1024 (a .components) || ltb most64 (leastRow a)
     || ltb (a .stride) (leastRow a)
 
--- "not 8, 16 or 32"
+-- bits that no sample has, others than 8, 16 and 32: 13
 unfoldable pub badBits : ℕ → Bool
 badBits b = not (eqb b 8 || eqb b 16 || eqb b 32)
 
--- "eCompression absent or not 2", the other way round
+-- whether eCompression says that frames are not compressed: else 12
 unfoldable pub uncompressed : Option ℤ → Bool
 uncompressed none = false
 uncompressed (some (pos n)) = eqb n 2

@@ -1,4 +1,4 @@
--- "Integers in files and lent bytes are little-endian." A file, and any lent buffer of bytes, is a list of numbers below 256.
+-- A file, and any lent buffer of bytes, is a list of numbers below 256. A number of several bytes has its lowest byte first.
 use Prim.Native.Nat.{ℕ, zero, suc, _+_, _-_, _*_, _/_, _%_, _^_}
 use Prim.Native.String.{String, [] as []ₛ, _∷_ as _∷ₛ_}
 use Prim.Native.Char.{code}
@@ -17,7 +17,7 @@ unfoldable pub leBytes : ℕ → ℕ → List ℕ
 leBytes zero n = []
 leBytes (suc k) n = n % 256 ∷ leBytes k (n / 256)
 
--- "2^64 − 1"
+-- the largest number of 64 bits
 abbrev pub most64 : ℕ
 most64 = 2 ^ 64 - 1
 
@@ -25,7 +25,7 @@ most64 = 2 ^ 64 - 1
 unfoldable pub part : List ℕ → ℕ → ℕ → List ℕ
 part s i n = take n (drop i s)
 
--- a lent buffer with xs at its start, "later bytes untouched"
+-- a lent buffer with xs at its start, its later bytes as before
 unfoldable pub over : List ℕ → List ℕ → List ℕ
 over xs buf = xs ++ drop (length xs) buf
 

@@ -1,4 +1,4 @@
--- "Calibration and channels": the pixel size and the z step.
+-- Document 01, Calibration and channels: the pixel size and the z step.
 use Prim.Native.Nat.{ℕ, zero, suc}
 use mathlib.Core.Bool.{Bool, true, false, cond, _&&_}
 use mathlib.Core.Option.{Option, none, some, orElse}
@@ -24,18 +24,18 @@ unfolding orElse
 firstOf f [] = none
 firstOf f (i ∷ is) = orElse (f i) (firstOf f is)
 
--- "eType 4"
+-- whether an eType is that of a loop over z, 4
 unfoldable pub isFour : Option ℤ → Bool
 isFour none = false
 isFour (some (pos n)) = eqb n 4
 isFour (some (negsuc n)) = false
 
--- "a dZStep not 0 without its sign"
+-- the step that dZStep states: none where it is 0 or −0, and without a minus sign
 unfoldable pub statedStep : Option Float → Option Float
 statedStep none = none
 statedStep (some x) = cond (ne x zeroFloat) (some (magnitude x)) none
 
--- "else, if uiCount exceeds 1, the distance from dZHigh to dZLow divided by count − 1 in f64, count rounded first"
+-- the step of n values from lo to hi: none where n is 1 or 0, else |hi − lo| ÷ (n − 1), each step an operation of f64, with n made a double first
 unfoldable pub spanStep : ℕ → Option Float → Option Float → Option Float
 spanStep n none lo = none
 spanStep n (some hi) none = none
@@ -55,7 +55,7 @@ unfoldable pub stepAt : List ℕ → List Entry → ℕ → Option Float
 unfolding ownStep isFour ascii
 stepAt s es i = ownStep s es (isFour (bind (fieldIn s es i (ascii "eType")) signed)) (loopParams s es (fieldIn s es i (ascii "uLoopPars")))
 
--- "first found in tree order, below stopped loops too": with `levels` depths left
+-- the first step that is stated by the level i or one below it, even if i says no loop: with `levels` depths left
 unfoldable pub zStep : ℕ → List ℕ → List Entry → ℕ → Option Float
 unfolding stepAt firstOf ascii orElse
 zStep zero s es i = none
@@ -63,14 +63,14 @@ zStep (suc levels) s es i =
     orElse (stepAt s es i)
     (firstOf (zStep levels s es) (childLevels s es (fieldIn s es i (ascii "ppNextLevelEx"))))
 
--- "In f32: .. (1e-6 to 1e3)": the f32 nearest to 1 / 1,000,000 and to 1,000
+-- the limits of class 1: the f32 nearest to 1 / 1,000,000 and to 1,000
 abbrev pub leastStep : Float
 leastStep = round binary32 false 1 1_000_000
 
 abbrev pub mostStep : Float
 mostStep = round binary32 false 1000 1
 
--- "In f32: class 0 none or not a positive finite number, 1 used (1e-6 to 1e3), 2 smaller, 3 larger."
+-- the class of a step in f32: 1 within the limits, 2 below them, 3 above them, and 0 where it is no finite number above 0 or not there
 unfoldable pub zClass : Option Float → ℕ
 zClass none = 0
 zClass (some x) = cond (positive x && finite x) (cond (lt x leastStep) 2 (cond (lt mostStep x) 3 1)) 0
@@ -82,12 +82,12 @@ zFloat (some x) = some (narrow x)
 
 -- ---- the pixel size
 
--- "dCalibration above 0"
+-- a size that is above 0
 unfoldable pub aboveZero : Option Float → Option Float
 aboveZero none = none
 aboveZero (some x) = cond (positive x) (some x) none
 
--- "SLxCalibration, dCalibration"
+-- the pixel size that a tree states: dCalibration in the level SLxCalibration
 unfoldable pub pixelSize : List ℕ → List Entry → Option Float
 unfolding aboveZero ascii
 pixelSize s es =
@@ -95,28 +95,28 @@ pixelSize s es =
 
 -- ---- what calibration gives
 
--- "nothing is stated, z and its class neither (all zero)"; "A tree that ends in 8 gives state 2, the rest zero"
+-- a calibration without a pixel size: its state, 0 or 2, and zeros
 unfoldable pub unstated : ℕ → Calibration
 unstated n = record { state = n; size = zeroFloat; class = 0; z = zeroFloat }
 
--- "Only class 1 keeps z."
+-- the z of a step of class n: the step in class 1, and 0 in the others
 unfoldable pub keptZ : ℕ → Option Float → Float
 keptZ n none = zeroFloat
 keptZ n (some z) = cond (eqb n 1) z zeroFloat
 
--- "rounded to f32 nearest-even, is x and y alike (state 1)"; z is the step in f32
+-- what a tree with this pixel size states, or one without: the size is rounded to f32; z is the step in f32
 unfoldable pub stated : Option Float → Option Float → Calibration
 unfolding keptZ
 stated none z = unstated 0
 stated (some c) z = record { state = 1; size = narrow c; class = zClass z; z = keptZ (zClass z) z }
 
--- "only 18 stops it there"; any other fault of chunk or tree states nothing
+-- 18 is a refusal; a packed record gives state 2, and every other fault, of the chunk or of its tree, state 0
 unfoldable pub calibrationBy : List ℕ → Option Float → Answer (List Entry) → Answer Calibration
 unfolding stated
 calibrationBy s z (given es) = given (stated (pixelSize s es) z)
 calibrationBy s z (refused n) = cond (eqb n why.table) (refused why.table) (given (unstated (cond (eqb n why.packed) 2 0)))
 
--- "ImageCalibrationLV|0!", read into a table of `room` entries; z is the step in f32
+-- what the chunk ImageCalibrationLV|0! states, read into a table of `room` entries; z is the step in f32
 unfoldable pub calibration : List ℕ → List ℕ → List MapEntry → ℕ → Option Float → Answer Calibration
 unfolding calibrationBy ascii
 calibration s m es room z = calibrationBy s z (namedTree s m es room (ascii "ImageCalibrationLV|0!"))

@@ -1,4 +1,4 @@
--- "The calls": for each its answer from its arguments alone: the number, the summary, and every lent byte or record afterwards.
+-- Document 01, The calls: the answer of each from its arguments alone, which is the number, the summary, and all lent bytes and records as they are afterwards.
 pub mod Open
 pub mod Plane
 pub mod Sheet

@@ -1,5 +1,4 @@
--- "Calibration and channels": ImageMetadataSeqLV|0!, SLxPictureMetadata, sPicturePlanes, level sPlaneNew, else sPlane. A plane's record may cover several
--- components.
+-- Document 01, Calibration and channels: what the planes of the tree in ImageMetadataSeqLV|0! say of the components, of which a plane may cover several.
 use Prim.Native.Nat.{ℕ, _-_, _/_, _%_, min}
 use mathlib.Core.Bool.{cond}
 use mathlib.Core.Option.{Option, none, some, orElse}
@@ -13,11 +12,11 @@ use Rattle.format.specs.Loops.{childLevels}
 use Rattle.format.specs.declared.Entry.{Entry}
 use Rattle.format.specs.declared.Channel.{Channel}
 
--- "empty ones"
+-- the record of a component of which nothing is told
 unfoldable pub emptyChannel : Channel
 emptyChannel = record { named = 0; name = 0; units = 0; colored = 0; red = 0; green = 0; blue = 0 }
 
--- "sDescription (state 1, place, units; all 0 if absent or empty)"
+-- the name that sDescription is, where it is a text of one unit or more: state 1, where it begins, its units; else three zeros
 unfoldable pub withText : Option Value → (ℕ → ℕ → ℕ → Channel) → Channel
 withText none k = k 0 0 0
 withText (some (flag b)) k = k 0 0 0
@@ -28,7 +27,7 @@ withText (some (bytes i n)) k = k 0 0 0
 withText (some (level i)) k = k 0 0 0
 withText (some (list l)) k = k 0 0 0
 
--- "uiColor (state 1, low byte red, then green, blue; all 0 if absent or over u32)"
+-- the colour that uiColor is: state 1, the lowest byte as red, the next as green, the third as blue; four zeros where it cannot be read
 unfoldable pub withColor : Option ℕ → ℕ → ℕ → ℕ → Channel
 withColor none s i n = record { named = s; name = i; units = n; colored = 0; red = 0; green = 0; blue = 0 }
 withColor (some v) s i n =
@@ -60,7 +59,7 @@ unfoldable pub covered : ℕ → List PlaneRecord → List Channel
 covered m [] = []
 covered m (p ∷ ps) = replicate (min (p .covers) m) (p .channel) ++ covered (m - p .covers) ps
 
--- "SLxPictureMetadata, sPicturePlanes, level sPlaneNew, else sPlane": the level whose children are the planes
+-- the level whose children are the planes: sPlaneNew, or sPlane where that is no level
 unfoldable pub planesLevel : List ℕ → List Entry → Option ℕ
 unfolding orElse ascii
 planesLevel s es =

@@ -1,4 +1,4 @@
--- "Map and chunks": a chunk is u32 0x0ABECEDA, u32 name length, u64 data length, name, data.
+-- Document 01, Map and chunks: a chunk is a header of 16 bytes (the mark, the length of its name, the length of its data), then the name, then the data.
 use Prim.Native.Nat.{ℕ, _+_}
 use mathlib.Core.Bool.{not}
 use mathlib.Core.List.{List}
@@ -13,7 +13,7 @@ abbrev pub chunkMark : ℕ
 chunkMark = 0x0ABECEDA
 
 -- The data of the chunk whose header begins at `at`. Its name has to begin with `name`, and `misnamed` is the refusal where it does not: 4 for the map chunk,
--- and 29 for one that the map has under that name. It stands between "name leaves the file" and "data leaves the file".
+-- and 29 for one that the map has under that name. The name has to lie in the file before it is compared, and the data is judged behind it.
 unfoldable pub chunkData : ℕ → List ℕ → List ℕ → ℕ → Answer Range
 unfolding leAt part begins refuseIf
 chunkData misnamed name s at =
@@ -26,6 +26,6 @@ chunkData misnamed name s at =
     (refuseIf (ltb (length s) (at + 16 + nameLen + dataLen)) why.chunk
     (given (record { start = at + 16 + nameLen; len = dataLen }))))))
 
--- "a chunk's data is handed on as that part of the file"
+-- the bytes of a part of the file, as of a chunk's data
 abbrev pub dataIn : List ℕ → Range → List ℕ
 dataIn s r = part s (r .start) (r .len)

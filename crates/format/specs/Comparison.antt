@@ -1,4 +1,4 @@
--- Change request 3, "Name checks that finish early": whether two names are the same, and how many units are compared to tell.
+-- Change request 3: whether two names are the same, and how many units are compared to tell.
 use Prim.Native.Nat.{ℕ, suc}
 use mathlib.Core.Bool.{true, false, cond}
 use mathlib.Core.List.{List, [], _∷_}

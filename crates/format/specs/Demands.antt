@@ -1,5 +1,4 @@
--- The customer's demands, as far as they speak of what the calls answer, in one place: statements only. "This holds for any file bytes, table, indices and
--- buffer."
+-- The customer's demands, as far as they speak of what the calls answer, in one place: statements only, of whatever is lent to a call.
 use Prim.Native.Nat.{ℕ, _/_, _≤_, _<_}
 use mathlib.Core.Path.{_≡_}
 use mathlib.Core.List.{List}
@@ -35,14 +34,14 @@ use Rattle.format.specs.declared.Entry.{Entry}
 use Rattle.format.specs.declared.Channel.{Channel}
 use Rattle.format.specs.declared.Summary.{Summary}
 
--- The first demand: "a refusal returns its number, changes no byte of samples or register and zeroes table and channel records". Each number is the first that
--- holds in the call's order.
+-- Demand 1: what every call returns, and what it leaves in all that was lent. A refused one returns the first number that holds in its order; samples and
+-- register are then as they were, and table and channel records are zero.
 pub record FirstDemand : Type 0 where
   pub open-table : (file table : List ℕ) → openCall file table .table ≡ zeros (length table)
   pub open-refused : (file table : List ℕ) → Refuses (openCall file table .number) → Blank (openCall file table .summary)
   pub open-number : (file table : List ℕ) → FirstAt (OpenRefusal file (roomIn (length table))) openOrder (openCall file table .number)
   pub open-number-only : (file : List ℕ) (room n m : ℕ) → FirstAt (OpenRefusal file room) openOrder n → FirstAt (OpenRefusal file room) openOrder m → n ≡ m
-  -- "table" is not said with entries left: 18 is the number only where more records of a tree that opening reads pass than the table has entries
+  -- 18 is the number only where more records of a tree that opening reads pass than the table has entries
   pub open-table-full : (file table : List ℕ) → openCall file table .number ≡ why.table
       → (name : List ℕ) × TreeRead name × TooMany file name (roomIn (length table))
   pub plane-number : (file : List ℕ) (u : Summary) (scene t c z : ℕ) (samples : List ℕ)
@@ -57,7 +56,7 @@ pub record FirstDemand : Type 0 where
       → FirstAt (TreeRefusal file u name room) treeOrder n → FirstAt (TreeRefusal file u name room) treeOrder m → n ≡ m
   pub tree-refused : (file : List ℕ) (u : Summary) (name table : List ℕ)
       → Refuses (treeCall file u name table .number) → treeCall file u name table .buffer ≡ zeros (length table)
-  -- "One entry per record read, in file order; the rest zero."
+  -- the table of an accepted tree has an entry for each record, in their order, and zeros behind these
   pub tree-table : (file : List ℕ) (u : Summary) (name table : List ℕ) → treeCall file u name table .number ≡ 0
       → TreeEntered file u name (length table) (treeCall file u name table .buffer)
   pub channels-number : (file : List ℕ) (u : Summary) (table : List ℕ) (row : List Channel)
@@ -83,14 +82,13 @@ pub record FirstDemand : Type 0 where
   pub border-refused : (file table : List ℕ) (scene t c z : ℕ) (samples : List ℕ)
       → Refuses (borderCall file table scene t c z samples .number) → borderCall file table scene t c z samples .samples ≡ samples
 
--- The third demand, sentence by sentence.
+-- Demand 3, sentence by sentence.
 pub record ThirdDemand : Type 0 where
-  -- "After an opening and an accepted plane on the same bytes with the summary returned, for every row y below the height and column x below the width, sample
-  -- y × width + x of the buffer .. equals byte for byte the sample beginning 8 + y × row bytes + (x × components + c) × sample bytes into the data of the chunk
-  -- to which the map's last entry ImageDataSeq|n! points, n counted from the loops in file order": for any summary
+  -- an accepted plane leaves in the buffer, row by row and byte for byte, the samples of component c from the chunk of the frame that the point's number names:
+  -- for any summary
   pub plane-sample : (file : List ℕ) (u : Summary) (scene t c z : ℕ) (samples : List ℕ) → planeCall file u scene t c z samples .number ≡ 0
       → PlaneCopied file u scene t c z samples (planeCall file u scene t c z samples .buffer)
-  -- "different in-range triples (scene, t, z) have different n": for any summary that 20 does not refuse
+  -- different points in range have different frame numbers: for any summary that 20 does not refuse
   pub frames-different : (file : List ℕ) (u : Summary) → Sound file u → Different (loopsOf u)
   -- the frame number, the count of an axis and the count of frames that these sentences speak of are those of the rules
   pub number-is : (ls : List Loop) (scene t z : ℕ) → FrameNumber ls scene t z (seqIndex ls scene t z)
@@ -100,17 +98,16 @@ pub record ThirdDemand : Type 0 where
   pub names-different : (n m : ℕ) (name : List ℕ) → FrameName n name → FrameName m name → n ≡ m
   pub number-below : (file : List ℕ) (u : Summary) (scene t z : ℕ) → Sound file u → Within (loopsOf u) scene t z
       → seqIndex (loopsOf u) scene t z < frames (loopsOf u)
-  -- "With the summary returned a plane is accepted exactly when none of the refusals that document 01 lists for that call holds": for any summary
+  -- a plane is accepted where no refusal of its call holds, and only there: for any summary
   pub plane-accepted : (file : List ℕ) (u : Summary) (scene t c z : ℕ) (samples : List ℕ)
       → AcceptedUnless (AtSome (PlaneRefusal file u scene t c z samples)) (planeCall file u scene t c z samples .number)
   -- and of these 20 never holds of a summary that an opening returned
   pub opened-sound : (file table : List ℕ) → openCall file table .number ≡ 0 → Sound file (openCall file table .summary)
-  -- "A file opens exactly when document 01's grammar, written without the reader, joins its bytes to a summary and the table has entries enough for the trees
-  -- read."
+  -- a file opens where the grammar, which knows of no reader, joins it to a summary and the lent table is enough, and only there
   pub opens-exactly : (file table : List ℕ) → OpensExactly file (roomIn (length table)) (openCall file table .number)
-  -- "No bytes are joined to two summaries"
+  -- a file is joined to one summary at most
   pub joined-unique : (file : List ℕ) (u v : Summary) → Joined file u → Joined file v → u ≡ v
-  -- "and an opening that accepts returns theirs"
+  -- an accepted opening returns that one
   pub returns-theirs : (file table : List ℕ) → openCall file table .number ≡ 0 → Joined file (openCall file table .summary)
-  -- "48 × (tree bytes ÷ 2, rounded down) bytes always suffice": no more records of a tree pass than half its bytes
+  -- no more records of a tree pass than half its bytes, so that a table with an entry for every two of them is always enough (document 01, Trees)
   pub half-suffices : (file : List ℕ) (r : Range) (n : ℕ) → PassedIn file r n → n ≤ r .len / 2

@@ -1,4 +1,4 @@
--- "Both edges": the starred lines, as rows of one statement, and what change request 4 puts in place of one of them.
+-- Document 01, Both edges: the starred cases, as rows of one statement, and what change request 4 puts in place of one of them.
 use Prim.Native.Nat.{ℕ}
 use mathlib.Core.Path.{_≡_}
 use mathlib.Core.Bool.{true}
@@ -75,30 +75,30 @@ planeOf n = let d = planeData n in andThen (treeEntries (read d 0)) λ es. given
 unfoldable pub u32Record : List ℕ
 u32Record = 0x03 ∷ 0x02 ∷ 0x61 ∷ 0x00 ∷ 0x00 ∷ 0x00 ∷ 0x05 ∷ 0x00 ∷ 0x00 ∷ 0x00 ∷ []
 
--- 0B 00 01 00 00 00, u64 length, 01 00 01, eight zeros
+-- a level of this length, with one child, a flag that is set; neither has a name
 unfoldable pub oneTrue : ℕ → List ℕ
 oneTrue n = 0x0B ∷ 0x00 ∷ 0x01 ∷ 0x00 ∷ 0x00 ∷ 0x00 ∷ n ∷ 0 ∷ 0 ∷ 0 ∷ 0 ∷ 0 ∷ 0 ∷ 0 ∷ 0x01 ∷ 0x00 ∷ 0x01 ∷ 0 ∷ 0 ∷ 0 ∷ 0 ∷ 0 ∷ 0 ∷ 0 ∷ 0 ∷ []
 
 -- ---- the rows
 
 pub record Starred : Type 0 where
-  -- "seq: loops T 3, P 4; scene 2, t 1: n = 6. Loops P 4, T 3: 7."
+  -- the frame number of scene 2 and t 1, with the times outside and with the points outside
   pub seq-times-first : seqIndex (timesThree ∷ scenesFour ∷ []) 2 1 0 ≡ 6
   pub seq-scenes-first : seqIndex (scenesFour ∷ timesThree ∷ []) 2 1 0 ≡ 7
-  -- "place: width 2, components 3, 16 bits, row bytes 14: (1,1), c 2 begins at 32. Row bytes 12 accepted, 11 gives 14."
+  -- where sample (1, 1) of component 2 begins, with a stride of 14; strides of 12 and 11, of which the second does not hold a row
   pub place : samplePlace (shaped 14) 0 2 1 1 ≡ 32
   pub row-12 : attributesOf 12 0x4000000000000000 ≡ given (shaped 12)
   pub row-11 : attributesOf 11 0x4000000000000000 ≡ refused 14
-  -- "record at file byte 100: 03 02 61 00 00 00 05 00 00 00: entry 3, 102, 1, 106, 4, 0. Without the last byte: 6."
+  -- the entry of a record of type 3 at byte 100; the same record without its last byte
   pub record-u32 : read u32Record 100 ≡ entered (record { kind = 3; name = 102; units = 1; value = 106; size = 4; parent = 0 }) (at 10)
   pub record-cut : read (take 9 u32Record) 100 .stop ≡ fault 6
-  -- "level 0B 00 01 00 00 00, u64 17, 01 00 01, eight zeros: unnamed list of one true. Length 13: 10."
+  -- a level of one unnamed flag is a list of that flag; a length that does not cover its header
   pub level-17 : valueAt (oneTrue 17) (read (oneTrue 17) 0 .entries) 0 ≡ list (1 ∷ [])
   pub level-17-one : valueAt (oneTrue 17) (read (oneTrue 17) 0 .entries) 1 ≡ flag true
   pub level-17-unnamed : map nameUnitsOf (read (oneTrue 17) 0 .entries) ≡ 0 ∷ 0 ∷ []
   pub level-17-end : read (oneTrue 17) 0 .stop ≡ at 25
   pub level-13 : read (oneTrue 13) 0 .stop ≡ fault 10
-  -- "colour 0x00332211: 0x11, 0x22, 0x33."
+  -- the bytes of a colour, red the lowest
   pub colour : planeOf 0x00332211 ≡ given (record { named = 0; name = 0; units = 0; colored = 1; red = 0x11; green = 0x22; blue = 0x33 })
   -- change request 4, in place of the line by which an eCompression of 2.9 passed: 2.9 states nothing, so it gives 12; 1.9 gives 12 as before, and 2.0 passes
   pub compression-2·9 : attributesOf 14 0x4007333333333333 ≡ refused 12
@@ -107,7 +107,7 @@ pub record Starred : Type 0 where
   -- an eType of 1.5 is no loop, 1.0 is one
   pub type-1·5 : timesOf 0x3FF8000000000000 ≡ given []
   pub type-1·0 : timesOf 0x3FF0000000000000 ≡ given (timesThree ∷ [])
-  -- "dZHigh 10, dZLow −10, uiCount 11: 2.0. uiCount 1: none."
+  -- the step of a stack from −10 to 10, with 11 values and with 1
   pub step-11 : stepOf 11 ≡ given (some (ofBits binary64 0x4000000000000000))
   pub step-1 : stepOf 1 ≡ given none
   -- the trees of the last lines and of the row bytes are read to their ends

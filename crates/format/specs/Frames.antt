@@ -1,5 +1,4 @@
--- "Loops": "n: from 0, for each loop, times its count plus its index; an absent axis has one value." With it the name of a frame's chunk and
--- the place of a sample in a frame.
+-- Document 01, Loops: the numbers of frames, as loops one in another count them. With them the name of a frame's chunk and the place of a sample in a frame.
 use Prim.Native.Nat.{ℕ, zero, suc, _+_, _*_, _/_, _%_}
 use mathlib.Core.Bool.{cond}
 use mathlib.Core.List.{List, [], _∷_, _++_}
@@ -14,7 +13,7 @@ use Rattle.format.specs.declared.Loop.{Loop}
 
 -- ---- numbers
 
--- the count of an axis: "an absent axis has one value"
+-- the count of an axis: 1 where no loop runs over it
 unfoldable pub countOf : Axis → List Loop → ℕ
 countOf a [] = 1
 countOf a (l ∷ ls) = cond (sameAxis (l .axis) a) (l .count) (countOf a ls)
@@ -28,7 +27,7 @@ unfoldable pub seqFrom : ℕ → List Loop → ℕ → ℕ → ℕ → ℕ
 seqFrom n [] scene t z = n
 seqFrom n (l ∷ ls) scene t z = seqFrom (n * l .count + indexOf (l .axis) scene t z) ls scene t z
 
--- the frame number of (scene, t, z)
+-- the frame number of (scene, t, z): 0 to begin with, then n × count + index for each loop, from the outside in
 unfoldable pub seqIndex : List Loop → ℕ → ℕ → ℕ → ℕ
 unfolding seqFrom
 seqIndex ls scene t z = seqFrom 0 ls scene t z
@@ -55,14 +54,13 @@ unfoldable pub decimal : ℕ → List ℕ
 unfolding digitsFrom
 decimal n = digitsFrom 20 n []
 
--- "ImageDataSeq, bar, n in decimal, !"
+-- the name of the chunk of frame n
 unfoldable pub frameName : ℕ → List ℕ
 unfolding decimal ascii
 frameName n = ascii "ImageDataSeq|" ++ decimal n ++ ascii "!"
 
 -- ---- samples
 
--- the place of sample (x, y) of component c in a file whose frame's data begins at `start`:
--- "beginning 8 + y × row bytes + (x × components + c) × sample bytes into the data"
+-- The place of sample (x, y) of component c in a file whose frame's data begins at `start`: behind 8 bytes, y rows, and the samples before it in its row.
 abbrev pub samplePlace : Attributes → ℕ → ℕ → ℕ → ℕ → ℕ
 samplePlace a start c y x = start + 8 + y * a .stride + (x * a .components + c) * sampleBytes (a .bits)

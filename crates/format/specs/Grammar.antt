@@ -1,4 +1,4 @@
--- "The grammar": document 01's rules, with none of the definitions that compute a reading. What the rules share with those is just this:
+-- Document 01, The grammar: its rules, with none of the definitions that compute a reading. What the rules share with those is just this:
 -- bytes: Bytes.{leAt, part, ascii, most64}, Text.units and Chunks.dataIn;
 -- constants: Chunks.chunkMark, Map.{endMark, mapName, mostEntries}, Trees.{packedType, mostItems, mostDepth}, Loops.mostCount,
 -- Calibration.{leastStep, mostStep}, Numbers.{zeroFloat, oneFloat} and the refusals' numbers, Refusals;

@@ -1,24 +1,24 @@
--- Document 01 as definitions, in its order. Where a heading has more than one idea, each has a file.
--- Ground: "Integers in files and lent bytes are little-endian", and answers that may be refusals
+-- Document 01 as definitions, in its order. Where a heading has more than one idea, each has a file. docs/FORMAT.md has the whole in words.
+-- Ground: bytes and the numbers in them, and answers that may be refusals
 pub mod Bytes
 pub mod Answer
--- "Why a file is turned away"
+-- Why a file is turned away: the numbers
 pub mod Refusals
--- "Map and chunks"
+-- Map and chunks
 pub mod Chunks
 pub mod Map
--- "Trees": text, records and their entries, what the entries mean
+-- Trees: text, records and their entries, what the entries mean
 pub mod Text
 pub mod Trees
 pub mod Table
 pub mod Values
--- "Attributes": the readings of numbers, the attributes
+-- Attributes: the readings of numbers, the attributes
 pub mod Numbers
 pub mod Attributes
--- "Loops": the walk, the frame numbers
+-- Loops: the walk, the frame numbers
 pub mod Loops
 pub mod Frames
--- "Calibration and channels"
+-- Calibration and channels
 pub mod Calibration
 pub mod Channels
 -- change request 2: a plane as a TIFF file
@@ -27,14 +27,14 @@ pub mod Sheets
 pub mod Comparison
 -- change request 5: a size in whole picometres
 pub mod Picometres
--- "The calls": the summary that they share, and each call's answer from its arguments alone
+-- The calls: the summary that they share, and each call's answer from its arguments alone
 pub mod Summary
 pub mod Calls
--- "The grammar": rules, with none of the definitions that compute a reading
+-- The grammar: rules, with none of the definitions that compute a reading
 pub mod Grammar
--- "Why a file is turned away", as propositions
+-- Why a file is turned away: the refusals, as propositions
 pub mod Refused
--- files from their parts, and "Both edges": the starred lines
+-- files from their parts, and Both edges: the starred cases
 pub mod Build
 pub mod Edges
 -- the customer's first and third demand, as statements: the sentences that contracts say too, and the demands

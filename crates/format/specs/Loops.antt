@@ -1,4 +1,4 @@
--- "Loops": ImageMetadataLV!, level SLxExperiment, nesting 0.
+-- Document 01, Loops: what the experiment's levels say, SLxExperiment in the tree of ImageMetadataLV! and those below it, and the loops that this makes.
 use Prim.Native.Nat.{ℕ, zero, suc, _+_, max}
 use mathlib.Core.Bool.{Bool, cond, not, _&&_, _||_, false}
 use mathlib.Core.Option.{Option, none, some}
@@ -17,7 +17,7 @@ use Rattle.format.specs.declared.Axis.{Axis}
 use Rattle.format.specs.declared.Axis.the-variants.{T, Z, P}
 use Rattle.format.specs.declared.Loop.{Loop}
 
--- "over 1,000,000"
+-- the largest count that a loop may have: past it 16
 abbrev pub mostCount : ℕ
 mostCount = 1_000_000
 
@@ -27,7 +27,7 @@ orZero (some n) = n
 
 -- ---- the parameters, and what stands in a list or a level
 
--- "uLoopPars (a level, or a list of just one level)"
+-- the level of a loop's parameters: uLoopPars itself, or the only element of a list
 unfoldable pub loopParams : List ℕ → List Entry → Option Value → Option ℕ
 unfolding asLevel
 loopParams s es none = none
@@ -55,7 +55,7 @@ unfolding addLevel
 levelsIn s es [] = []
 levelsIn s es (x ∷ xs) = addLevel (asLevel (some (slotValue s es x))) (levelsIn s es xs)
 
--- "Elements or entries of ppNextLevelEx that are levels"
+-- the levels among the elements or entries of a value, as of ppNextLevelEx
 unfoldable pub childLevels : List ℕ → List Entry → Option Value → List ℕ
 unfolding levelsOf levelsIn
 childLevels s es none = []
@@ -67,7 +67,7 @@ childLevels s es (some (bytes i n)) = []
 childLevels s es (some (level i)) = levelsIn s es (slotsOf s es (suc i))
 childLevels s es (some (list l)) = levelsOf s es l
 
--- "counts elements or entries of Points"
+-- how many elements or entries a value has, as Points
 unfoldable pub sizeOf : List ℕ → List Entry → Option Value → ℕ
 sizeOf s es none = 0
 sizeOf s es (some (flag b)) = 0
@@ -80,12 +80,12 @@ sizeOf s es (some (list l)) = length l
 
 -- ---- the counts
 
--- how many of these have an "unsigned reading [that] is there and not 0"
+-- how many of these read unsigned as something else than 0
 unfoldable pub countSet : List ℕ → List Entry → List ℕ → ℕ
 countSet s es [] = 0
 countSet s es (i ∷ is) = cond (eqb (orZero (unsigned (valueAt s es i))) 0) 0 1 + countSet s es is
 
--- "with a list pItemValid (beside uLoopPars) those of its first that many" that are valid; n without such a list
+-- how many of n points count: where pItemValid is a list, the valid ones among its first n elements; else all n
 unfoldable pub validOf : List ℕ → List Entry → ℕ → Option Value → ℕ
 unfolding countSet
 validOf s es n none = n
@@ -97,19 +97,19 @@ validOf s es n (some (bytes i k)) = n
 validOf s es n (some (level i)) = n
 validOf s es n (some (list l)) = countSet s es (take n l)
 
--- "Counts are uiCount"
+-- the uiCount of the level i, and 0 without one
 abbrev pub countField : List ℕ → List Entry → ℕ → ℕ
 unfolding ascii
 countField s es i = orZero (bind (fieldIn s es i (ascii "uiCount")) unsigned)
 
--- type 2: points, of these the valid ones; "with no points, uiCount alone". i is the experiment's level and p its parameters'.
+-- type 2: points, of these the valid ones; uiCount where there are no points. i is the experiment's level and p its parameters'.
 unfoldable pub pointCount : List ℕ → List Entry → ℕ → ℕ → ℕ
 unfolding ascii validOf
 pointCount s es i p =
     let n = sizeOf s es (fieldIn s es p (ascii "Points")) in
     cond (eqb n 0) (countField s es p) (validOf s es n (fieldIn s es i (ascii "pItemValid")))
 
--- "type 6 prefers pPlanes.uiCount"
+-- type 6: the count in pPlanes where there is one, else the uiCount n
 unfoldable pub planesCount : ℕ → Option ℕ → ℕ
 planesCount n none = n
 planesCount n (some c) = c
@@ -128,15 +128,15 @@ pub data Said : Type 0 where
   wrong : ℕ → Said
   loop : ℕ → ℕ → Said
 
--- "others are refused in the walk (15)": those that are not
+-- the types that are read; of the others those from 1 to 10, and all below 0, are 15
 unfoldable pub supported : ℕ → Bool
 supported t = eqb t 1 || eqb t 2 || eqb t 4 || eqb t 6 || eqb t 7 || eqb t 8
 
--- "loop count: over 1,000,000", and "a count of 0: stop here"
+-- a loop of a type and a count: 16 where the count is too large, no loop where it is 0
 unfoldable pub counted : ℕ → ℕ → Said
 counted t c = cond (ltb mostCount c) (wrong why.loopCount) (cond (eqb c 0) nothing (loop t c))
 
--- "eType 0, absent or over 10 .. : stop here"
+-- what a level of this eType says: no loop where it is 0 or over 10, and 15 where it is of a type that is not read
 unfoldable pub typed : List ℕ → List Entry → ℕ → ℕ → ℤ → Said
 unfolding supported counted
 typed s es i p (negsuc t) = wrong why.loopKind
@@ -145,7 +145,7 @@ typed s es i p (pos t) =
     (cond (not (supported t)) (wrong why.loopKind)
     (counted t (cond (eqb t 2) (pointCount s es i p) (cond (eqb t 6) (spectralCount s es p) (countField s es p)))))
 
--- "No uLoopPars .. : stop here"
+-- what a level of these parameters and this eType says: no loop where one of both is absent
 unfoldable pub saidBy : List ℕ → List Entry → ℕ → Option ℕ → Option ℤ → Said
 unfolding typed
 saidBy s es i none t = nothing
@@ -162,8 +162,8 @@ pub record Built : Type 0 where
   pub count : ℕ
   pub nesting : ℕ
 
--- The appended loops, the last one first. "Append if the last appended nesting is smaller or there is none; else, if nesting and type match, keep
--- the larger count; else drop."
+-- The appended loops, the last one first, and one more at nesting n. It is appended where it is the first or nested deeper than the last; it is merged with one
+-- of its nesting and type, so that the larger of both counts stays; any other is dropped.
 unfoldable pub append : ℕ → ℕ → ℕ → List Built → List Built
 append t c n [] = record { kind = t; count = c; nesting = n } ∷ []
 append t c n (b ∷ bs) =
@@ -174,7 +174,7 @@ unfoldable pub walkAll : (ℕ → List Built → Answer (List Built)) → List �
 walkAll go [] bs = given bs
 walkAll go (i ∷ is) bs = andThen (go i bs) (walkAll go is)
 
--- "stop here, children too"; "go one deeper, under spectral at the same nesting"
+-- A level that says no loop ends the walk there. Below a spectral loop the nesting stays, below every other it is one more.
 unfoldable pub walkOne : (ℕ → ℕ → List Built → Answer (List Built)) → List ℕ → ℕ → List Built → Said → Answer (List Built)
 unfolding walkAll
 walkOne go kids n bs nothing = given bs
@@ -189,9 +189,9 @@ unfolding walkOne ascii
 walk zero s es i n bs = given bs
 walk (suc levels) s es i n bs = walkOne (walk levels s es) (childLevels s es (fieldIn s es i (ascii "ppNextLevelEx"))) n bs (said s es i)
 
--- ---- "after it the appended loops are judged in order: a 7 gives 15, a second one of an axis 17"
+-- ---- after the walk: the appended loops, taken in their order. A custom one is 15, one on an axis that came before 17
 
--- "Types 1 and 8 are T, 2 P, 4 Z": the axis of an appended type. Custom, 7, is refused before it is asked
+-- the axis of an appended type: focus for 4, points for 2, time for 1 and 8. Custom, 7, is refused before it is asked
 abbrev pub axisOf : ℕ → Axis
 axisOf t = cond (eqb t 4) Z (cond (eqb t 2) P T)
 

@@ -1,4 +1,4 @@
--- "Map and chunks": the locator in the last 40 bytes, the map's entries, and the chunk that the map has under a name.
+-- Document 01, Map and chunks: the locator in the last 40 bytes, the map's entries, and the chunk that the map has under a name.
 use Prim.Native.Nat.{ℕ, zero, suc, _+_, _-_}
 use mathlib.Core.Bool.{Bool, true, false, not, cond}
 use mathlib.Core.Option.{Option, none, some, orElse}
@@ -22,7 +22,7 @@ mapName = ascii "ND2 FILEMAP SIGNATURE NAME 0001!"
 
 -- ---- the locator
 
--- The map's data: 1 or 2, 3, 4. "The last 40 bytes are `ND2 CHUNK MAP SIGNATURE 0000001!` and the u64 offset of the map chunk."
+-- The map's data: 1 or 2, 3, 4. The locator is 32 bytes of mark and 8 of offset, where the map's chunk begins.
 unfoldable pub mapRange : List ℕ → Answer Range
 unfolding endMark mapName
 mapRange s =
@@ -36,7 +36,7 @@ mapRange s =
 
 -- ---- the entries
 
--- "at most 2,000,000 map entries"
+-- the most entries that a map may have
 abbrev pub mostEntries : ℕ
 mostEntries = 2_000_000
 
@@ -52,7 +52,7 @@ through true r = some 1
 through false none = none
 through false (some n) = some (suc n)
 
--- how many bytes a list has "through its first `!`"
+-- how many bytes a list has up to its first '!' and with it
 unfoldable pub throughMark : List ℕ → Option ℕ
 unfolding through
 throughMark [] = none
@@ -62,7 +62,7 @@ unfoldable pub prepend : MapEntry → List MapEntry → Answer (List MapEntry)
 prepend e es = given (e ∷ es)
 
 -- What stands at position `at` of the map's data m, with n bytes through the next '!': the end mark, or an entry and what `more` finds
--- after it. There is no `more` where as many entries as the limit allows have come. "Repeats count towards 5."
+-- after it. There is no `more` where as many entries as the limit allows have come, and a repeated name counts each time.
 unfoldable pub entryThen : Option (ℕ → Answer (List MapEntry)) → List ℕ → ℕ → ℕ → Bool → Answer (List MapEntry)
 unfolding prepend
 entryThen more m at n true = given []
@@ -82,14 +82,14 @@ unfolding mapStep throughMark
 mapFrom zero m at = mapStep none m at (throughMark (drop at m))
 mapFrom (suc room) m at = mapStep (some (mapFrom room m)) m at (throughMark (drop at m))
 
--- "a name through its first `!`, u64 offset, u64 size; the end mark's name ends the map": the entries in order, or 5
+-- the entries in order, up to the end mark, or 5
 unfoldable pub mapEntries : List ℕ → Answer (List MapEntry)
 unfolding mapFrom
 mapEntries m = mapFrom mostEntries m 0
 
 -- ---- a name
 
--- "The last entry of a name wins; size is never used."
+-- the offset of the furthest entry down that has the name; no entry's size is looked at
 unfoldable pub offsetOf : List ℕ → List ℕ → List MapEntry → Option ℕ
 unfolding orElse
 offsetOf m name [] = none

@@ -1,5 +1,4 @@
--- "Attributes", and change request 4, "No more fractions as whole numbers": how a value is read as a number. Doubles go by the logic's account of IEEE 754,
--- lib.Ieee.
+-- Document 01, Attributes, and change request 4: how a value is read as a number. Doubles go by the logic's account of IEEE 754, lib.Ieee.
 use Prim.Native.Nat.{ℕ, _^_, _*_, _/_, _%_}
 use mathlib.Core.Bool.{Bool, true, false, cond}
 use mathlib.Core.Option.{Option, none, some}
@@ -14,7 +13,7 @@ zeroFloat = fin false 0 (pos 0)
 abbrev pub oneFloat : Float
 oneFloat = fin false 1 (pos 0)
 
--- "Flags read as 0 or 1."
+-- the number of a flag
 abbrev pub oneIf : Bool → ℕ
 oneIf true = 1
 oneIf false = 0
@@ -57,24 +56,24 @@ unfoldable pub inI64 : ℤ → Option ℤ
 inI64 (pos n) = cond (ltb n (2 ^ 63)) (some (pos n)) none
 inI64 (negsuc n) = cond (ltb n (2 ^ 63)) (some (negsuc n)) none
 
--- "Unsigned reading"
+-- a value read unsigned
 unfoldable pub unsigned : Value → Option ℕ
 unfolding wholeNumber inU64
 unsigned v = bind (wholeNumber v) inU64
 
--- "Signed reading (eCompression, eType)"
+-- a value read signed, as eCompression and eType are
 unfoldable pub signed : Value → Option ℤ
 unfolding wholeNumber inI64
 signed v = bind (wholeNumber v) inI64
 
--- "to u32": absent from 2^32 on
+-- a number read below 2^32: absent from there on
 unfoldable pub below32 : Option ℕ → Option ℕ
 below32 none = none
 below32 (some n) = cond (ltb n (2 ^ 32)) (some n) none
 
 -- ---- doubles
 
--- as a double: "whole numbers up to 2^64 − 1 round to f64"
+-- a value read as a double: of a whole number the f64 nearest to it, ties to even
 unfoldable pub float : Value → Option Float
 float (flag b) = some (ofInt binary64 (pos (oneIf b)))
 float (whole z) = some (ofInt binary64 z)
@@ -84,19 +83,19 @@ float (bytes i n) = none
 float (level i) = none
 float (list l) = none
 
--- "rounded to f32 nearest-even"
+-- the f32 nearest to a double, ties to even
 unfoldable pub narrow : Float → Float
 narrow nan = nan
 narrow (inf s) = inf s
 narrow (fin s m e) = round binary32 s (m * up e) (down e)
 
--- "without its sign"
+-- a double without a minus sign
 unfoldable pub magnitude : Float → Float
 magnitude nan = nan
 magnitude (inf s) = inf false
 magnitude (fin s m e) = fin false m e
 
--- "above 0"
+-- whether a double is above 0, which a NaN is not
 unfoldable pub positive : Float → Bool
 positive x = lt zeroFloat x
 

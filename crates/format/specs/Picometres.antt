@@ -1,4 +1,4 @@
--- Change request 5, "Pixel size in whole picometres": micrometres in whole picometres. A double is m × 2^e, and all of it goes over whole numbers.
+-- Change request 5: micrometres in whole picometres. A double is m × 2^e, and all of it goes over whole numbers.
 use Prim.Native.Nat.{ℕ, _*_}
 use mathlib.Core.Option.{Option, none}
 use lib.IntN.{pos}

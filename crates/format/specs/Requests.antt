@@ -58,7 +58,7 @@ use Rattle.format.specs.declared.Attributes.{Attributes}
 use Rattle.format.specs.declared.Channel.{Channel}
 use Rattle.format.specs.declared.Summary.{Summary}
 
--- Change request 2, "Planes as TIFF sheets".
+-- Change request 2: a plane as a TIFF file, and such a file read back.
 pub record Sheets : Type 0 where
   -- the bytes that are defined are those of which the rules hold, and no bytes are the sheet of two planes
   pub rule-is : (s : List ℕ) (w h b : ℕ) (samples : List ℕ) → SheetOf s w h b samples ↔ (SheetSizes w h b samples × (s ≡ sheet w h b samples))
@@ -93,7 +93,7 @@ pub record Sheets : Type 0 where
       (back .number ≡ 0) × ((back .width ≡ u .width) × ((back .height ≡ u .height) × ((back .bits ≡ u .bits)
       × (back .samples ≡ planeCall file u scene t c z samples .buffer))))
 
--- Change request 3, "Name checks that finish early".
+-- Change request 3: two names compared, with the count of units that it took.
 pub record NameChecks : Type 0 where
   -- yes and no are the ones by which names are looked up
   pub as-before : (a b : List ℕ) → compared a b .same ≡ same (lossy a) (lossy b)
@@ -107,7 +107,7 @@ pub record NameChecks : Type 0 where
       → ((k : ℕ) → Looked a (compared a b .units) k → getD a′ k 0 ≡ getD a k 0)
       → ((k : ℕ) → Looked b (compared a b .units) k → getD b′ k 0 ≡ getD b k 0) → compared a′ b′ ≡ compared a b
 
--- ---- change request 4, "No more fractions as whole numbers"
+-- ---- change request 4: a double counts as a whole number only where it is one
 
 -- What a double that counts as absent means, field by field, in a tree with the entries es.
 pub record CountsAsAbsent (s : List ℕ) (es : List Entry) : Type 0 where
@@ -160,7 +160,7 @@ pub record WholeNumbers : Type 0 where
   -- in any tree of any bytes
   pub in-fields : (s : List ℕ) (r : Range) (es : List Entry) → Tree s r es → CountsAsAbsent s es
 
--- ---- change request 5, "Pixel size in whole picometres"
+-- ---- change request 5: the size of a pixel in picometres
 
 pub record Picometres : Type 0 where
   -- of a double m × 2^e: no whole number is nearer to m × 2^e × 1,000,000, and where another is as near, the one that is given is even
@@ -212,7 +212,7 @@ pub record Picometres : Type 0 where
   pub opened-size : (file table : List ℕ) → openCall file table .number ≡ 0
       → SizeTold file (openCall file table .summary) (picometresCall file (openCall file table .summary) table)
 
--- ---- change request 6, "A chunk must bear its own name"
+-- ---- change request 6: a chunk is taken under its own name alone
 
 pub record ChunkNames : Type 0 where
   -- a chunk's name begins with the name of one frame alone

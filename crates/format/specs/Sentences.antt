@@ -51,7 +51,7 @@ Refuses n = n ≡ 0 → ⊥
 abbrev pub None : (ℕ → Type 0) → Type 0
 None Refusal = (n : ℕ) → Refusal n → ⊥
 
--- a call whose number is n is accepted exactly when none of these refusals holds
+-- a call whose number is n is accepted where none of these refusals holds, and only there
 abbrev pub AcceptedUnless : (ℕ → Type 0) → ℕ → Type 0
 AcceptedUnless Refusal n = (n ≡ 0) ↔ None Refusal
 
@@ -61,11 +61,11 @@ AtSome {A = A} P n = (a : A) × P a n
 
 -- ---- opening
 
--- an opening whose number is n, with a table of `room` entries, accepts exactly when the grammar joins the file to a summary and the table has entries enough
+-- Demand 3: an opening whose number is n accepts where the grammar joins the file to a summary and a table of `room` entries is enough, and only there
 abbrev pub OpensExactly : List ℕ → ℕ → ℕ → Type 0
 OpensExactly file room n = (n ≡ 0) ↔ ((u : Summary) × Joined file u × Enough file room)
 
--- "different in-range triples (scene, t, z) have different n"
+-- Demand 3: two points in range that have the same frame number are one point
 abbrev pub Different : List Loop → Type 0
 Different ls =
     (scene t z scene′ t′ z′ : ℕ) → Within ls scene t z → Within ls scene′ t′ z′ → seqIndex ls scene t z ≡ seqIndex ls scene′ t′ z′
@@ -117,13 +117,13 @@ TreeEntered file u name n after =
 
 -- ---- a plane read from the file alone
 
--- a reading whose number is n accepts exactly when the grammar joins the file to a summary, the table has entries enough, and with that summary no refusal
--- of the plane holds
+-- a reading whose number is n accepts where the grammar joins the file to a summary, the table is enough, and with that summary no refusal of the plane holds;
+-- and only there
 abbrev pub ReadsExactly : List ℕ → ℕ → ℕ → ℕ → ℕ → ℕ → List ℕ → ℕ → Type 0
 ReadsExactly file room scene t c z samples n =
     (n ≡ 0) ↔ ((u : Summary) × Joined file u × Enough file room × None (AtSome (PlaneRefusal file u scene t c z samples)))
 
--- ---- change request 4, "No more fractions as whole numbers"
+-- ---- change request 4: whole numbers
 
 -- the five numbers without which no file opens, and from where on a whole number is out of the range of each
 pub data SizeField : List ℕ → ℕ → Type 0 where
@@ -154,7 +154,7 @@ abbrev pub WholeTyped : List ℕ → Summary → Type 0
 WholeTyped file u =
     (es : List Entry) (i : ℕ) (x : Float) → ExperimentAt file es i → Field file es (suc i) (ascii "eType") (double x) → NotSigned x → loopsOf u ≡ []
 
--- ---- change request 5, "Pixel size in whole picometres"
+-- ---- change request 5: picometres
 
 -- the summary u states the size of the file in f32, and x is that size, as it is read from the value of the field
 pub record StatedSize (file : List ℕ) (u : Summary) (x : Float) : Type 0 where
@@ -171,7 +171,7 @@ pub data SizeTold (file : List ℕ) (u : Summary) (said : SizeOutcome) : Type 0 
   over : {x : Float} → StatedSize file u x → said .number ≡ why.sizeRange → picometres x ≡ none → SizeTold file u said
   unstated : (u .calibration ≡ 1 → ⊥) → Refuses (said .number) → (said .number ≡ why.sizeRange → ⊥) → SizeTold file u said
 
--- ---- change request 6, "A chunk must bear its own name"
+-- ---- change request 6: the names of chunks
 
 -- the summary's map leads from a name to a chunk of another one
 abbrev pub NameAstray : List ℕ → Summary → List ℕ → Type 0

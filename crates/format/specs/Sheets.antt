@@ -1,5 +1,4 @@
--- Change request 2, "Planes as TIFF sheets": a sheet is one plane as a TIFF 6.0 file, little-endian. Its parts in that standard's words, and its thirteen
--- fields.
+-- Change request 2: a sheet is one plane as a TIFF 6.0 file, little-endian. Its parts in that standard's words, and its thirteen fields.
 use Prim.Native.Nat.{ℕ, _+_, _*_}
 use mathlib.Core.Bool.{cond}
 use mathlib.Core.List.{List, [], _∷_, _++_}
@@ -10,7 +9,7 @@ use Rattle.format.specs.Attributes.{sampleBytes}
 
 -- ---- TIFF 6.0
 
--- "Image File Header": the byte order, 42, and the place of the directory
+-- Image File Header: the byte order, 42, and the place of the directory
 unfoldable pub tiffHeader : ℕ → List ℕ
 unfolding ascii leBytes
 tiffHeader place = ascii "II" ++ leBytes 2 42 ++ leBytes 4 place
@@ -45,7 +44,7 @@ unfoldable pub fieldBytes : TiffField → List ℕ
 unfolding leBytes typeNumber valueBytes
 fieldBytes f = leBytes 2 (f .tag) ++ leBytes 2 (typeNumber (f .type)) ++ leBytes 4 (f .count) ++ valueBytes (f .type) (f .value)
 
--- "Image File Directory": the number of entries, the entries, and the place of the next directory, 0 where there is none
+-- Image File Directory: the number of entries, the entries, and the place of the next directory, 0 where there is none
 unfoldable pub tiffDirectory : List TiffField → List ℕ
 unfolding leBytes each fieldBytes
 tiffDirectory fs = leBytes 2 (length fs) ++ each fieldBytes fs ++ leBytes 4 0

@@ -1,5 +1,4 @@
--- "The calls": the summary. "The summary keeps for each loop its axis and its count (at most three loops, in order), besides width, row bytes,
--- height, components, bits per sample, map data position and length, calibration state, x and y in f32, z class and z in f32."
+-- Document 01, The calls: the summary. It is what opening tells of a file: the loops, the sizes of a frame, where the map's data is, and the calibration.
 use Prim.Native.Nat.{ℕ, _+_}
 use mathlib.Core.Bool.{Bool, false, _||_}
 use mathlib.Core.List.{List, [], _∷_, _++_}
@@ -45,7 +44,7 @@ summaryOf m a ls c =
       z = c .z;
     }
 
--- "summary (all zero if refused)"
+-- the summary of a refused opening
 unfoldable pub zeroSummary : Summary
 zeroSummary =
     record {
@@ -86,14 +85,13 @@ mapOf s u = dataIn s (u .map)
 
 -- ---- 20
 
--- "a loop count is not 1 to 1,000,000", "an axis repeats"
+-- a loop has the count 0 or one that is too large, or a later one has its axis
 unfoldable pub badLoops : List Loop → Bool
 unfolding hasAxis
 badLoops [] = false
 badLoops (l ∷ ls) = eqb (l .count) 0 || ltb mostCount (l .count) || hasAxis (l .axis) ls || badLoops ls
 
--- "20: the shape rules fail, bits are not 8, 16 or 32, a loop count is not 1 to 1,000,000, loops are over three, an axis repeats, or the map range
--- leaves the file." The shape rules are those of 14, the plane product's too.
+-- 20: the sizes are such as 13 or 14 refuses, the bytes of a plane too; more than three loops are used, or a bad one; or the map reaches past the file's end
 unfoldable pub badSummary : List ℕ → Summary → Bool
 unfolding badLoops badShape badBits
 badSummary s u =

@@ -1,4 +1,4 @@
--- "Trees": entries as they stand in a lent table. "Entries are six u64".
+-- Document 01, Trees: entries as they stand in a lent table, each of them six numbers of eight bytes.
 use Prim.Native.Nat.{ℕ, zero, suc, _+_, _*_, _^_, _<_}
 use mathlib.Core.List.{List, [], _∷_, _++_}
 use Rattle.format.specs.Bytes.{leAt}

@@ -1,4 +1,4 @@
--- "Trees": UTF-16 units in a file. "A lone surrogate becomes U+FFFD before names are compared."
+-- Document 01, Trees: UTF-16 units in a file. Names are compared with U+FFFD for each surrogate that has no partner.
 use Prim.Native.Nat.{ℕ, zero, suc, _+_}
 use mathlib.Core.Bool.{Bool, not, _&&_, _||_, cond}
 use mathlib.Core.List.{List, [], _∷_}

@@ -1,4 +1,4 @@
--- "Trees": a record is u8 type, u8 name length in units, the UTF-16 name, a value; a level's value is records again.
+-- Document 01, Trees: a record has a type, a name and a value, and a level is a record whose value holds further ones.
 -- `read` gives a tree's entries in file order and how it ends. It knows of no table: `within` says what a table of some entries makes of it.
 use Prim.Native.Nat.{ℕ, zero, suc, _+_, _-_, _*_, _/_}
 use mathlib.Core.Bool.{Bool, true, false, not, _&&_, _||_, cond}
@@ -60,28 +60,28 @@ unfoldable pub textUnits : List ℕ → ℕ
 textUnits [] = 0
 textUnits (u ∷ us) = cond (eqb u 0) 0 (suc (textUnits us))
 
--- "8 text (to a zero unit or until under 2 bytes remain)"
+-- text: up to the first zero unit, which is passed over, or else as many whole units as there are
 unfoldable pub textValue : List ℕ → ℕ → ℕ → (ℕ → ℕ → Entry) → Read
 unfolding textUnits
 textValue d i e entry =
     let n = textUnits (units ((e - i) / 2) d i) in
     entered (entry i (2 * n)) (at (cond (leb (i + 2 * n + 2) e) (i + 2 * n + 2) (i + 2 * n)))
 
--- "9 u64 size and bytes"
+-- bytes, behind eight that say how many
 unfoldable pub bytesValue : List ℕ → ℕ → ℕ → (ℕ → ℕ → Entry) → Read
 bytesValue d i e entry =
     let size = leAt 8 d i in
     entered (entry (i + 8) size) (cond (leb (i + 8) e && leb (i + 8 + size) e) (at (i + 8 + size)) (fault why.cut))
 
--- "over 10,000,000 items"
+-- the most items that a level may declare: past it 10
 abbrev pub mostItems : ℕ
 mostItems = 10_000_000
 
--- "a level, even empty, at depth 64"
+-- so many levels may stand one in another: one more is 9
 abbrev pub mostDepth : ℕ
 mostDepth = 64
 
--- a level's end: the children, "then 8 × count bytes skipped"
+-- where a level ends: behind its children, and eight bytes more for each declared item, which are not read
 unfoldable pub levelEnd : ℕ → ℕ → ℕ → Stop
 levelEnd count to e = cond (leb (to + 8 * count) e) (at (to + 8 * count)) (fault why.cut)
 
@@ -97,8 +97,8 @@ childrenOr9 (some children) count from to entry e =
     then (children count from to) λ m q.
     ends (levelEnd count to e)
 
--- "11 level: u32 count, u64 length from the record's first byte to the children's end, children, then 8 × count bytes skipped."
--- "In a level: 10 for items, 10 for length, 6, depth, children, skip."
+-- A level: four bytes that say how many items it has, eight that say how far behind the start of its record the children end, and these. Too many items and
+-- too small a length are 10; children past the end are 6; then come the depth, the children's own faults and the bytes behind them.
 unfoldable pub levelValue : List ℕ → Children → ℕ → ℕ → ℕ → (ℕ → ℕ → Entry) → Read
 unfolding levelEnd pick childrenOr9
 levelValue d children start i e entry =
@@ -113,7 +113,7 @@ levelValue d children start i e entry =
     pick (ltb e to) (wrong why.cut) λ _.
     childrenOr9 children count from to entry e
 
--- "1 bool (one byte), 2 i32, 3 u32, 4 i64, 5 u64, 6 f64, 7 u64 pointer": the bytes of such a value
+-- how many bytes a flag, a number or a pointer has, by its type
 unfoldable pub fixedLen : ℕ → ℕ
 fixedLen k = cond (eqb k 1) 1 (cond (eqb k 2 || eqb k 3) 4 8)
 
@@ -139,9 +139,8 @@ packedType = 76
 abbrev pub ChildrenAt : Type 0
 ChildrenAt = ℕ → Children
 
--- The entry of the record at i, with n bytes of value at v. "Entries are six u64: type, name position, name units kept, value position (past any
--- count, size or length), value bytes (text without its zero; a level's children), parent entry plus one. Positions count from the file's
--- start." "The name's last unit is dropped unchecked."
+-- The entry of the record at i, with n bytes of value at v: its positions are those in the file, a name loses its last unit, and the parent is the number
+-- of its level's entry plus one, or 0.
 abbrev pub entryOf : List ℕ → ℕ → ℕ → ℕ → ℕ → ℕ → Entry
 entryOf d base parent i v n =
     record {
@@ -153,8 +152,8 @@ entryOf d base parent i v n =
       parent = parent;
     }
 
--- One record at i, whose first two bytes are there, in a level that ends at e. "Packed, 0 and 10 are judged before the name, other unknown
--- types after it, then 18, then the value."
+-- One record at i, whose first two bytes are there, in a level that ends at e. A packed one and the types 0 and 10 are refused whatever the name is, another
+-- unknown type only where the name lies in the level; the value comes last.
 unfoldable pub recordAt : List ℕ → ℕ → ChildrenAt → ℕ → ℕ → ℕ → ℕ → Read
 unfolding stopIf value known
 recordAt d base children parent used i e =
@@ -167,7 +166,7 @@ recordAt d base children parent used i e =
     stopIf (not (known k)) why.kind λ _.
     value d (children used) k i v e (entryOf d base parent i)
 
--- At most `count` records from i on, in a level that ends at e. "Fewer than 2 bytes at a record's start end that level quietly."
+-- At most `count` records from i on, in a level that ends at e. Where no two bytes are left for another, the level ends, and that is no fault.
 unfoldable pub records : List ℕ → ℕ → ChildrenAt → ℕ → ℕ → ℕ → ℕ → ℕ → Read
 unfolding recordAt pick follow
 records d base children parent zero used i e = ends (at i)
@@ -183,7 +182,7 @@ childrenAt zero d base used = none
 childrenAt (suc levels) d base used =
     some λ count from to. records d base (childrenAt levels d base) (suc used) count (suc used) from to
 
--- "The data is one record at depth 0, children one deeper."
+-- a tree: a single record, around which there is no level, or none where the data has no two bytes
 unfoldable pub read : List ℕ → ℕ → Read
 unfolding records childrenAt
 read d base = records d base (childrenAt mostDepth d base) 0 1 0 0 (length d)
@@ -193,7 +192,7 @@ unfoldable pub treeIn : List ℕ → Range → Read
 unfolding read
 treeIn s r = read (dataIn s r) (r .start)
 
--- ---- the table. "Each tree starts with an empty table."
+-- ---- the table, which every tree fills from its start
 
 -- how many whole entries a table of n bytes has
 abbrev pub roomIn : ℕ → ℕ

@@ -1,6 +1,5 @@
--- "Trees": what the entries of a tree mean. A level is an ordered map of names to values: "A repeated name keeps its first place and takes the
--- last value. A second unnamed value turns the first into a list; if that is already a list it is appended. A level whose only entry is
--- unnamed becomes that list, or a list of one."
+-- Document 01, Trees: what the entries of a tree mean. A level is a row of places, each with a name and its value; the unnamed entries share one place, and two
+-- or more of them are a list. A level whose entries are all unnamed is a list itself.
 use Prim.Native.Nat.{ℕ, zero, suc, _+_, _-_, _/_, _^_}
 use mathlib.Core.Bool.{Bool, true, false, not, cond}
 use mathlib.Core.Option.{Option, none, some}
@@ -14,7 +13,7 @@ use Rattle.format.specs.Text.{units, lossy}
 use Rattle.format.specs.Trees.{mostDepth}
 use Rattle.format.specs.declared.Entry.{Entry}
 
--- "A value keeps its kind: flag, whole number, double, text, bytes, level or list." Text and bytes are a file position and a count of units or
+-- The value of an entry or of a place, by its kind. Text and bytes are a file position and a count of units or
 -- bytes, a level is its entry's number, and a list is the numbers of its elements' entries.
 pub data Value : Type 0 where
   flag : Bool → Value
@@ -32,7 +31,7 @@ pub data Slot : Type 0 where
   named : List ℕ → ℕ → Slot
   unnamed : List ℕ → Slot
 
--- "A repeated name keeps its first place and takes the last value."
+-- a name that came before has its place already, and the entry i takes that over; a new one gets a place behind the others
 unfoldable pub putNamed : List ℕ → ℕ → List Slot → List Slot
 putNamed n i [] = named n i ∷ []
 putNamed n i (named m j ∷ r) = cond (same n m) (named m i ∷ r) (named m j ∷ putNamed n i r)
@@ -83,14 +82,14 @@ unfolding spread
 elements val [] = []
 elements val (i ∷ is) = spread (val i) i ++ is
 
--- "A level whose only entry is unnamed becomes that list, or a list of one."
+-- the value of the level i with these places: where the unnamed one is alone it is a list
 unfoldable pub collapse : (ℕ → Value) → ℕ → List Slot → Value
 collapse val i [] = level i
 collapse val i (named n j ∷ r) = level i
 collapse val i (unnamed is ∷ []) = list (elements val is)
 collapse val i (unnamed is ∷ x ∷ r) = level i
 
--- the value of an entry that is no level: "1 bool, 2 i32, 3 u32, 4 i64, 5 u64, 6 f64, 7 u64 pointer, 8 text, 9 bytes"
+-- the value of an entry that is no level, by its type; a pointer is a whole number
 unfoldable pub leaf : List ℕ → Entry → Value
 unfolding twosComplement
 leaf s e =

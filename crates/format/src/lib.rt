@@ -44,7 +44,7 @@ pub struct Attributes {
     pub bits: u64,
 }
 
-// What a calibration gives. State: 0 none, 1 stated, 2 packed tree. Class: of the z step, 0 none, 1 used, 2 smaller, 3 larger.
+// What a calibration gives. State: 0 nothing is stated, 1 a size is, 2 its tree is packed. Class of the z step: 0 no step, 1 used, 2 too small, 3 too large.
 pub struct Calibration {
     pub state: u64,
     pub size: f32,
@@ -70,7 +70,7 @@ pub struct Summary {
 }
 
 // One entry of the table: a record's type, the position of its name, the name's units that are kept, the position of its value,
-// the value's bytes, and its parent's number plus one, 0 for the outermost record. Positions count from the file's start.
+// the value's bytes, and its parent's number plus one, 0 for the outermost record. Positions are those in the file.
 pub struct Entry {
     pub kind: u64,
     pub name: u64,

@@ -1,4 +1,4 @@
-// Why a file is turned away: the numbers of document 01 and of the change requests, by their trade words.
+// Document 01, Why a file is turned away: its numbers and those of the change requests, by their trade words.
 
 pub const FOREIGN: u32 = 1;
 

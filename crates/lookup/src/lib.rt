@@ -18,7 +18,7 @@ pub enum Found {
     Nothing,
 }
 
-// A value keeps its kind. Below(n) is the whole number -1 - n; Text is a place in the file and a count of units, Bytes a place and a
+// A value, by its kind. Below(n) is the whole number -1 - n; Text is a place in the file and a count of units, Bytes a place and a
 // count of bytes, Level the number of its entry, and List the number of the entry whose children are its elements.
 pub enum ClxValue {
     Flag(bool),

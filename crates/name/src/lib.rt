@@ -1,4 +1,4 @@
-// UTF-16 names in a file compared, a lone surrogate as U+FFFD. A comparison ends at the first unit that differs and says how many units it took;
+// UTF-16 names in a file compared, a lone surrogate as U+FFFD. A comparison goes no further than to the first difference and says how many units it took;
 // names of unequal lengths are told apart with none.
 ghost use mathlib.Core.Path.{_≡_};
 ghost use Prim.Native.Nat.{ℕ, _+_, _-_, _*_, _≤_, _<_};

@@ -302,7 +302,7 @@ pub fn positive(x: f64) -> bool
     x > 0.0
 }
 
-// A z step as stated: not 0, without its sign.
+// A z step as stated, without a minus sign; none where it is 0.
 pub fn stated_step(x: f64) -> Real
     ensures { λ r. ⌜ real r ≡ Calibration.statedStep (some x) ⌝ }
 {

@@ -286,7 +286,7 @@ fn read_file(file: &[u8], table: &mut [u8]) -> Opened
     }
 }
 
-// Opens a file: 0 and its summary, or the number of the first refusal. The table is all zero afterwards.
+// Opens a file: 0 and its summary, or the number of the first refusal. It leaves zeros in the table.
 pub fn open(file: &[u8], table: &mut [u8]) -> Opened
     ensures number { λ r. ⌜ r .number ≡ openCall (now (file .entry)) (now (table .entry)) .number ⌝ }
     ensures summary { λ r. ⌜ r .summary ≡ openCall (now (file .entry)) (now (table .entry)) .summary ⌝ }

@@ -66,7 +66,7 @@ fn read_size(file: &[u8], u: Summary, table: &mut [u8]) -> Size
     }
 }
 
-// The pixel size of a file in whole picometres: 0 and the size, or the number of the first refusal and 0. The table is zero afterwards.
+// The pixel size of a file in whole picometres: 0 and the size, or the number of the first refusal and 0. It leaves zeros in the table.
 pub fn picometres(file: &[u8], u: Summary, table: &mut [u8]) -> Size
     ensures number { λ r. ⌜ r .number ≡ picometresCall (now (file .entry)) u (now (table .entry)) .number ⌝ }
     ensures size { λ r. ⌜ r .picometres ≡ picometresCall (now (file .entry)) u (now (table .entry)) .picometres ⌝ }

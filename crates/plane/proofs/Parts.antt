@@ -7,7 +7,7 @@ use native.Mathlib.Nat.{suc-mul, zero-mul, add-zero, zero-add}
 use native.Mathlib.Omega.{arith}
 use lib.Dec.{ltb}
 use lib.ListN.{length, take, drop, take-append-drop}
-use lib.Seq.{drop-drop, drop-length}
+use lib.Seq.{take-take, drop-drop, drop-length}
 use borrow.Author.Tests.{ltb-true, ltb-false}
 use borrow.Rule.Slice.PartAt.{part-to-end}
 use borrow.Rule.Slice.PartMut.{putMid, take-put, drop-put}
@@ -20,20 +20,20 @@ use Rattle.plane.proofs.Rows.{turn, length-part}
 -- ---- d with q in the place of its bytes a .. e
 
 module _ (a e : ℕ) (d q : List ℕ) (within : a ≤ e) (inside : e ≤ length d) (as-long : length q ≡ e - a) where
-  part-before : (i n : ℕ) → i + n ≤ a → part (putMid a (e - a) d q) i n ≡ part d i n
+  pub part-before : (i n : ℕ) → i + n ≤ a → part (putMid a (e - a) d q) i n ≡ part d i n
   unfolding part
   part-before i n h =
       let before : (l : List ℕ) → part (take a l) i n ≡ part l i n = λ l. part-part l 0 a i n h ∙ rw zero-add refl in
       sym (before (putMid a (e - a) d q)) ∙ rw (take-put a (e - a) d q (omega arith)) (before d)
 
-  part-after : (i n : ℕ) → e ≤ i → part (putMid a (e - a) d q) i n ≡ part d i n
+  pub part-after : (i n : ℕ) → e ≤ i → part (putMid a (e - a) d q) i n ≡ part d i n
   unfolding part
   part-after i n h =
       let k : e + (i - e) ≡ i = omega arith in
       let after : (l : List ℕ) → drop (i - e) (drop e l) ≡ drop i l = λ l. rw (drop-drop, k) refl in
       ap (take n) (sym (after (putMid a (e - a) d q)) ∙ rw (drop-put a e d q within inside as-long) (after d))
 
-  part-put : part (putMid a (e - a) d q) a (e - a) ≡ q
+  pub part-put : part (putMid a (e - a) d q) a (e - a) ≡ q
   unfolding part
   part-put =
       let l : length (take a d) ≡ a = length-part d 0 a (omega arith) in
@@ -105,12 +105,22 @@ module _ (s d : List ℕ) (size : ℕ) where
   unfolding part
   parts-all q k done m alike ed hd el em eq = rest-all s d q done m (rw (← ed) at (parts-joined k alike)) hd el em eq
 
--- the first `lead` bytes of d replaced by those of s
-pub lead-copied : (s d q : List ℕ) (lead : ℕ) → lead ≤ length d → length s ≡ length d → q ≡ take (lead - 0) (drop 0 s)
-    → take lead (putMid 0 (lead - 0) d q) ≡ take lead s
+-- ---- the front of a list
+
+-- d is s in its first bytes, and the bytes behind them replaced by those of s
+pub front-more : (s d q : List ℕ) (x e : ℕ) → x ≤ e → e ≤ length d → length s ≡ length d → take x d ≡ take x s → q ≡ take (e - x) (drop x s)
+    → take e (putMid x (e - x) d q) ≡ take e s
 unfolding part
-lead-copied s d q lead h el e =
-    let z : lead - 0 ≡ lead = omega arith in
-    let as-long : length q ≡ lead - 0 = ap length e ∙ part-length s 0 (lead - 0) (omega arith) in
-    let put = part-put 0 lead d q (omega arith) h as-long in
-    ap (λ n. take n (putMid 0 (lead - 0) d q)) (sym z) ∙ put ∙ e ∙ ap (λ n. take n s) z
+front-more s d q x e h he el first same =
+    let as-long : length q ≡ e - x = ap length same ∙ part-length s x (e - x) (omega arith) in
+    let put = putMid x (e - x) d q in
+    let before : part put 0 x ≡ part s 0 x = part-before x e d q h he as-long 0 x (omega arith) ∙ first in
+    let here : part put (0 + x) (e - x) ≡ part s (0 + x) (e - x) = rw zero-add (part-put x e d q h he as-long ∙ same) in
+    let all : x + (e - x) ≡ e = omega arith in
+    let joined : part put 0 (x + (e - x)) ≡ part s 0 (x + (e - x)) =
+    sym (part-join put 0 x (e - x)) ∙ ap₂ _++_ before here ∙ part-join s 0 x (e - x) in
+    rw all at joined
+
+-- d is s in fewer of its first bytes
+pub front-less : (s d : List ℕ) (m n : ℕ) → m ≤ n → take n d ≡ take n s → take m d ≡ take m s
+front-less s d m n h e = sym (take-take m n d h) ∙ ap (take m) e ∙ take-take m n s h

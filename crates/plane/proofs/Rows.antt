@@ -9,13 +9,17 @@ use lib.ListN.{length, take, drop, getD, set, length-append}
 use lib.Seq.{drop-cons, drop-drop, drop-append-add, sets}
 use borrow.Rule.Slice.PartMut.{putMid}
 use Rattle.format.specs.Bytes.{part, over}
-use Rattle.format.proofs.Ground.Bytes.{part-length}
+use Rattle.format.proofs.Ground.Bytes.{part-length, sets-append}
 use Rattle.format.proofs.Ground.Buffers.{part-part, part-join, over-all, over-more, over-stored}
 use Rattle.plane.specs.Pieces.{pieces, rows}
 
 -- turn k of n, of a bytes each, ends within them
 pub turn : (k n a : ℕ) → k < n → k * a + a ≤ n * a
 turn k n a h = rw (← suc-mul) (mul-le-mul-right a h)
+
+-- and so do m turns from turn k on
+pub turns : (k m n a : ℕ) → k + m ≤ n → k * a + m * a ≤ n * a
+turns k m n a h = rw (← add-mul) (mul-le-mul-right a h)
 
 pub length-part : (s : List ℕ) (i n : ℕ) → i + n ≤ length s → length (take n (drop i s)) ≡ n
 unfolding part
@@ -40,7 +44,8 @@ module _ (s : List ℕ) (at step size : ℕ) (apart : at + size ≤ step) where
   piece-more d₀ d q k from to hk ef et ed eq =
       let q₂ : q ≡ part s (at + k * step) size = eq ∙ rw (add-sub-cancel-left, ef) refl in
       rw (add-sub-cancel-left, ed, add-one)
-      (over-more (pieces s at step size k) q d₀ to size (pieces-length k (omega arith) ∙ sym et) (ap length q₂ ∙ part-length s (at + k * step) size (omega arith))
+      (over-more (pieces s at step size k) q d₀ to size (pieces-length k (omega arith) ∙ sym et)
+      (ap length q₂ ∙ part-length s (at + k * step) size (omega arith))
       ∙ ap (λ (x : List ℕ). over (pieces s at step size k ++ x) d₀) q₂)
 
 -- the pieces of a part are pieces of the whole
@@ -60,6 +65,38 @@ pieces-append s at step size k (suc n) =
     let e : at + k * step + n * step ≡ at + (k + n) * step = rw add-mul (omega arith) in
     rw (← append-assoc, pieces-append s at step size k n, e, add-suc) refl
 
+module _ (s : List ℕ) (at step size : ℕ) (apart : at + size ≤ step) where
+  -- n of them over the first k of them
+  pub over-first : (d : List ℕ) (k n : ℕ) → k ≤ n → n * step ≤ length s
+      → over (pieces s at step size n) (over (pieces s at step size k) d) ≡ over (pieces s at step size n) d
+  unfolding over
+  over-first d k n h hn =
+      let hk : k * step ≤ length s = le-trans (mul-le-mul-right step h) hn in
+      let p = pieces s at step size k in
+      let l = pieces-length s at step size apart k hk in
+      let rest = n * size - k * size in
+      let e : n * size ≡ length p + rest = omega (arith, l, mul-le-mul-right size h) in
+      ap (λ (l : List ℕ). pieces s at step size n ++ l)
+      (rw (pieces-length s at step size apart n hn, e) (drop-append-add p (drop (length p) d) rest ∙ drop-drop rest (length p) d))
+
+  -- the bytes of d behind k of them, replaced by the next n
+  pub pieces-more : (d₀ d q : List ℕ) (k n from to : ℕ) → d ≡ over (pieces s at step size k) d₀ → k * step + n * step ≤ length s
+      → k * size + n * size ≤ length d₀ → from ≡ at + k * step → to ≡ k * size → q ≡ sets d to (pieces s from step size n)
+      → q ≡ over (pieces s at step size (k + n)) d₀
+  pieces-more d₀ d q k n from to before hk hd ef et eq =
+      let p = pieces s at step size k in
+      let x = pieces s from step size n in
+      let joined : p ++ x ≡ pieces s at step size (k + n) = rw ef (pieces-append s at step size k n) in
+      let first : length p ≡ k * size = pieces-length s at step size apart k (omega arith) in
+      let all : length p + length x ≡ (k + n) * size =
+      sym (length-append p x) ∙ ap length joined ∙ pieces-length s at step size apart (k + n) (rw add-mul hk) in
+      let l : length x ≡ n * size = omega (arith, first, all, add-mul k n size) in
+      eq ∙ rw before (over-stored p x d₀ to (first ∙ sym et) (omega (arith, l))) ∙ ap (λ (y : List ℕ). over y d₀) joined
+
+pub pieces-one : (s : List ℕ) (from step size : ℕ) → part s from size ≡ pieces s from step size 1
+unfolding pieces
+pieces-one s from step size = let e : from + 0 * step ≡ from = omega arith in rw e refl
+
 -- pieces with nothing between them are one
 pub pieces-joined : (s : List ℕ) (at size k : ℕ) → pieces s at size size k ≡ part s at (k * size)
 unfolding pieces part
@@ -74,7 +111,7 @@ pieces-once s d q w step k e h eq =
 
 -- ---- pieces of one byte
 
-one : (s : List ℕ) (i : ℕ) → i < length s → part s i 1 ≡ getD s i 0 ∷ []
+pub one : (s : List ℕ) (i : ℕ) → i < length s → part s i 1 ≡ getD s i 0 ∷ []
 unfolding part
 one s i h = rw (drop-cons s i 0 h) refl
 
@@ -86,39 +123,43 @@ four-pieces s from step h =
     let e₁ : from + 1 * step ≡ from + step = omega arith in
     rw (e₀, e₁, one s from (omega arith), one s (from + step) (omega arith), one s (from + 2 * step) (omega arith), one s (from + 3 * step) (omega arith)) refl
 
-module _ (s : List ℕ) (at step : ℕ) (apart : at + 1 ≤ step) where
-  so-many : (k : ℕ) → k * step ≤ length s → length (pieces s at step 1 k) ≡ k
-  so-many k h = pieces-length s at step 1 apart k h ∙ mul-one k
+-- ---- pieces of two bytes
 
-  -- n of them over the first k of them
-  pub over-first : (d : List ℕ) (k n : ℕ) → k ≤ n → n * step ≤ length s
-      → over (pieces s at step 1 n) (over (pieces s at step 1 k) d) ≡ over (pieces s at step 1 n) d
-  unfolding over
-  over-first d k n h hn =
-      let hk : k * step ≤ length s = le-trans (mul-le-mul-right step h) hn in
-      let p = pieces s at step 1 k in
-      let e : n ≡ length p + (n - k) = omega (arith, so-many k hk) in
-      ap (λ (l : List ℕ). pieces s at step 1 n ++ l)
-      (rw (so-many n hn, e) (drop-append-add p (drop (length p) d) (n - k) ∙ drop-drop (n - k) (length p) d))
+pub two : (s : List ℕ) (i : ℕ) → i + 2 ≤ length s → part s i 2 ≡ getD s i 0 ∷ (getD s (i + 1) 0 ∷ [])
+unfolding part
+two s i h = rw (drop-cons s i 0 (omega arith), drop-cons s (suc i) 0 (omega arith), add-one) refl
 
-module _ (s d₀ d : List ℕ) (at step k : ℕ) (apart : at + 1 ≤ step) (before : d ≡ over (pieces s at step 1 k) d₀) where
-  -- the byte of d behind k of them, replaced by the next
-  pub byte-more : (v : ℕ) → k * step + step ≤ length s → k < length d₀ → v ≡ getD s (at + k * step) 0 → set d k v ≡ over (pieces s at step 1 (k + 1)) d₀
-  unfolding pieces
-  byte-more v hk hd ev =
-      let next : part s (at + k * step) 1 ≡ v ∷ [] = rw ev (one s (at + k * step) (omega arith)) in
-      let p = pieces s at step 1 k in
-      rw (before, add-one)
-      (over-stored p (v ∷ []) d₀ k (so-many s at step apart k (omega arith)) (omega arith) ∙ ap (λ (x : List ℕ). over (p ++ x) d₀) (sym next))
+-- ys stored behind the n bytes xs
+stored : (d xs ys : List ℕ) (to n : ℕ) → length xs ≡ n → sets (sets d to xs) (to + n) ys ≡ sets d to (xs ++ ys)
+stored d xs ys to n e = rw (← e) (sym (sets-append xs ys d to))
 
-  -- the four bytes, replaced by the next four
-  pub bytes-more : (q : List ℕ) (from : ℕ) → k * step + 4 * step ≤ length s → k + 4 ≤ length d₀ → from ≡ at + k * step → q ≡ sets d k (pieces s from step 1 4)
-      → q ≡ over (pieces s at step 1 (k + 4)) d₀
-  bytes-more q from hk hd ef eq =
-      let l : length (pieces s from step 1 4) ≡ 4 = rw (four-pieces s from step (omega arith)) refl in
-      let joined : pieces s at step 1 k ++ pieces s from step 1 4 ≡ pieces s at step 1 (k + 4) = rw ef (pieces-append s at step 1 k 4) in
-      eq ∙ rw before (over-stored (pieces s at step 1 k) (pieces s from step 1 4) d₀ k (so-many s at step apart k (omega arith)) (omega (arith, l)))
-      ∙ ap (λ (x : List ℕ). over x d₀) joined
+-- one stored behind the other, four of them
+pub four-stored : (s d : List ℕ) (from step to : ℕ) → from + 3 * step + 2 ≤ length s
+    → sets (sets (sets (sets d to (part s from 2)) (to + 2) (part s (from + step) 2)) (to + 4) (part s (from + 2 * step) 2)) (to + 6)
+    (part s (from + 3 * step) 2)
+    ≡ sets d to (pieces s from step 2 4)
+unfolding pieces
+four-stored s d from step to h =
+    let e₀ : from + 0 * step ≡ from = omega arith in
+    let e₁ : from + 1 * step ≡ from + step = omega arith in
+    let p₀ = part s from 2 in
+    let p₁ = part s (from + step) 2 in
+    let p₂ = part s (from + 2 * step) 2 in
+    let p₃ = part s (from + 3 * step) 2 in
+    let l₀ : length p₀ ≡ 2 = part-length s from 2 (omega arith) in
+    let l₁ : length (p₀ ++ p₁) ≡ 4 = rw (length-append, l₀, part-length s (from + step) 2 (omega arith)) refl in
+    let l₂ : length ((p₀ ++ p₁) ++ p₂) ≡ 6 = rw (length-append, l₁, part-length s (from + 2 * step) 2 (omega arith)) refl in
+    rw (e₀, e₁, stored d p₀ p₁ to 2 l₀, stored d (p₀ ++ p₁) p₂ to 4 l₁, stored d ((p₀ ++ p₁) ++ p₂) p₃ to 6 l₂) refl
+
+-- the byte of d behind k of them, replaced by the next
+pub byte-more : (s d₀ d : List ℕ) (at step k v : ℕ) → at + 1 ≤ step → d ≡ over (pieces s at step 1 k) d₀ → k * step + step ≤ length s → k < length d₀
+    → v ≡ getD s (at + k * step) 0 → set d k v ≡ over (pieces s at step 1 (k + 1)) d₀
+unfolding pieces
+byte-more s d₀ d at step k v apart before hk hd ev =
+    let next : part s (at + k * step) 1 ≡ v ∷ [] = rw ev (one s (at + k * step) (omega arith)) in
+    let p = pieces s at step 1 k in
+    let l : length p ≡ k = pieces-length s at step 1 apart k (omega arith) ∙ mul-one k in
+    rw (before, add-one) (over-stored p (v ∷ []) d₀ k l (omega arith) ∙ ap (λ (x : List ℕ). over (p ++ x) d₀) (sym next))
 
 -- the byte of a pair at `at`, by a shift
 pub half-at : (a b at : ℕ) → a < 256 → b < 256 → at < 2 → (a + 256 * b) / 2 ^ (8 * at) % 256 ≡ getD (a ∷ (b ∷ [])) at 0
@@ -150,8 +191,8 @@ module _ (s : List ℕ) (at stride step size width : ℕ) (apart : at + size ≤
       rw (length-append, e, row-length k h₂, suc-mul)
 
   -- the bytes of d behind k rows, of w bytes each, replaced by the next row; m is what stood there
-  pub row-more : (d₀ d q m : List ℕ) (k from to e w f : ℕ) → k * stride + stride ≤ length s → from ≡ k * stride → e ≡ from + stride → w ≡ width * size → to ≡ k * w
-      → f ≡ to + w → length m ≡ w → d ≡ over (rows s at stride step size width k) d₀
+  pub row-more : (d₀ d q m : List ℕ) (k from to e w f : ℕ) → k * stride + stride ≤ length s → from ≡ k * stride → e ≡ from + stride
+      → w ≡ width * size → to ≡ k * w → f ≡ to + w → length m ≡ w → d ≡ over (rows s at stride step size width k) d₀
       → q ≡ over (pieces (take (e - from) (drop from s)) at step size width) m → putMid to (f - to) d q ≡ over (rows s at stride step size width (k + 1)) d₀
   unfolding rows part
   row-more d₀ d q m k from to e w f hk ef ee ew et ff em ed eq =

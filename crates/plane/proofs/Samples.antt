@@ -2,7 +2,8 @@
 use Prim.Native.Nat.{ℕ, zero, suc, _+_, _-_, _*_, _/_, _%_, _≤_, _<_}
 use mathlib.Core.Path.{_≡_, refl, sym, ap, ap₂, _∙_}
 use mathlib.Core.List.{List, _++_, append-assoc, append-nil}
-use native.Mathlib.Nat.{add-zero, zero-add, suc-add, suc-mul, zero-mul, one-mul, add-mul, mul-assoc, mul-comm, mul-le-mul-right, mul-add-div-right, mul-add-mod-self-right, mod-eq-of-lt, div-eq-of-lt}
+use native.Mathlib.Nat.{add-zero, zero-add, suc-add, suc-mul, zero-mul, one-mul, add-mul, mul-assoc, mul-comm, mul-le-mul-right}
+use native.Mathlib.Nat.{mul-add-div-right, mul-add-mod-self-right, mod-eq-of-lt, div-eq-of-lt}
 use native.Mathlib.Omega.{arith}
 use lib.ListN.{length, take, drop}
 use Rattle.format.specs.Bytes.{part}
@@ -136,5 +137,7 @@ module _ (s : List ℕ) (r : Range) (d : List ℕ) (e : d ≡ part s (r .start) 
   plane-rows u c room f =
       let size = sampleBytes (u .bits) in
       let e₂ : c * size + (r .start + 8) ≡ r .start + 8 + c * size = omega arith in
-      rw (behind-prefix, rows-part s (r .start + 8) (r .len - 8) (c * size) (u .stride) (u .components * size) size (u .width) (u .height) (sample-in f) (row-in f) (f .whole), e₂)
+      let step = u .components * size in
+      let whole = rows-part s (r .start + 8) (r .len - 8) (c * size) (u .stride) step size (u .width) (u .height) (sample-in f) (row-in f) (f .whole) in
+      rw (behind-prefix, whole, e₂)
       (rows-samples s (shapeOf u) (r .start) c (f .shape .width-some) (u .height) ∙ rw (mul-comm (u .height) (u .width)) refl)

@@ -4,15 +4,21 @@ ghost use mathlib.Core.List.{[], _∷_};
 ghost use Prim.Native.Nat.{_+_, _*_, _≤_, _<_};
 ghost use lib.ListN.{length, getD};
 ghost use lib.Seq.{sets};
-ghost use Rattle.format.specs.Bytes.{over};
+ghost use Rattle.format.specs.Bytes.{part, over};
 ghost use Rattle.plane.specs.Pieces.{pieces, rows};
-ghost use Rattle.plane.specs.Parts.{Alike};
+ghost use Rattle.plane.specs.Parts.{Alike, withRow};
 
 // How many parts of a long run are copied side by side.
 const PARTS: usize = 6;
 
 // How many bytes of a part are copied at once.
 const BLOCK: usize = 16;
+
+// How many bytes of a row are copied at once.
+const WIDE: usize = 64;
+
+// Rows of fewer bytes are copied one after another.
+const LONG_ROW: usize = 512;
 
 // Copies src into dst, which is as long.
 fn copy_bytes(src: &[u8], dst: &mut [u8])
@@ -82,6 +88,66 @@ fn copy_with_lead(src: &[u8], dst: &mut [u8], lead: usize)
     copy_run(&src[lead..], &mut dst[lead..]);
 }
 
+// Copies a wide block into dst, as a block is copied.
+fn copy_wide(src: &[u8], dst: &mut [u8])
+    requires { ⌜ (length (now src) ≡ 64) × (length (now dst) ≡ 64) ⌝ }
+    ensures { λ _. ⌜ now (dst .exit) ≡ now (src .entry) ⌝ }
+{
+    let mut block = [0; WIDE];
+    copy_bytes(src, &mut block);
+    copy_bytes(&block, dst);
+}
+
+// Copies src into dst, which is as long: a wide block at its start, then such blocks from `lead` on, and last the block with which it ends. Blocks may overlap:
+// with the right lead memory takes those between in one piece each, and no byte is copied by itself.
+fn copy_long(src: &[u8], dst: &mut [u8], lead: usize)
+    requires { ⌜ (length (now src) ≡ length (now dst)) × (64 ≤ length (now dst)) × (lead ≤ 64) ⌝ }
+    ensures { λ _. ⌜ now (dst .exit) ≡ now (src .entry) ⌝ }
+{
+    copy_wide(&src[0..WIDE], &mut dst[0..WIDE]);
+    let mut x = lead;
+    while WIDE <= dst.len() - x {
+        let e = x + WIDE;
+        copy_wide(&src[x..e], &mut dst[x..e]);
+        x = e;
+    }
+    let last = dst.len() - WIDE;
+    copy_wide(&src[last..], &mut dst[last..]);
+}
+
+// Copies the first `w` bytes of row k, of `stride` bytes, to the place of row k among rows of `w` bytes. `lead` bytes into dst memory takes a block in one
+// piece.
+fn copy_row(src: &[u8], dst: &mut [u8], stride: usize, w: usize, k: usize, lead: usize)
+    requires { ⌜ (64 ≤ w) × (w ≤ stride) × (k * stride + stride ≤ length (now src)) × (k * w + w ≤ length (now dst)) ⌝ }
+    ensures { λ _. ⌜ now (dst .exit) ≡ withRow (now (src .entry)) stride w k (now (dst .entry)) ⌝ }
+{
+    let from = k * stride;
+    let to = k * w;
+    let e = from + w;
+    let f = to + w;
+    copy_long(
+        &src[from..e],
+        &mut dst[to..f],
+        lead % BLOCK + BLOCK - to % BLOCK,
+    );
+}
+
+// Copies the first `w` bytes of each of `count` rows of `stride` bytes: a row of the first half and one of the second by turns, which memory serves faster than
+// one after another. The row in the middle of an odd count is in both.
+fn copy_apart(src: &[u8], dst: &mut [u8], stride: usize, w: usize, count: usize, lead: usize)
+    requires { ⌜ (64 ≤ w) × (w ≤ stride) × (count * stride ≤ length (now src)) × (count * w ≤ length (now dst)) ⌝ }
+    ensures { λ _. ⌜ now (dst .exit) ≡ over (pieces (now (src .entry)) 0 stride w count) (now (dst .entry)) ⌝ }
+{
+    let half = count / 2;
+    let turns = count - half;
+    let mut k = 0;
+    while k < turns {
+        copy_row(src, dst, stride, w, k, lead);
+        copy_row(src, dst, stride, w, half + k, lead);
+        k += 1;
+    }
+}
+
 // Copies src into dst, which is as long: a sample of 16 or 32 bits in one piece, as a block is.
 fn copy_piece(src: &[u8], dst: &mut [u8])
     requires { ⌜ length (now src) ≡ length (now dst) ⌝ }
@@ -131,20 +197,66 @@ fn copy_four(src: &[u8], dst: &mut [u8], from: usize, step: usize, to: usize)
     dst[to + 3] = src[from + 3 * step];
 }
 
-// Copies `count` bytes, at `at`, at + step, .. in src, to the front of dst: four at a time, and then the rest.
-fn copy_singles(src: &[u8], dst: &mut [u8], at: usize, step: usize, count: usize)
-    requires { ⌜ (at + 1 ≤ step) × (count * step ≤ length (now src)) × (count ≤ length (now dst)) ⌝ }
-    ensures { λ _. ⌜ now (dst .exit) ≡ over (pieces (now (src .entry)) at step 1 count) (now (dst .entry)) ⌝ }
+// Copies a sample of 16 bits, at `from` in src, to the place `to` of dst: both bytes are read before one is written, so the compiler copies them in one piece.
+fn copy_word(src: &[u8], dst: &mut [u8], from: usize, to: usize)
+    requires { ⌜ (from + 2 ≤ length (now src)) × (to + 2 ≤ length (now dst)) ⌝ }
+    ensures { λ _. ⌜ now (dst .exit) ≡ sets (now (dst .entry)) to (part (now (src .entry)) from 2) ⌝ }
+{
+    let first = src[from];
+    let second = src[from + 1];
+    dst[to] = first;
+    dst[to + 1] = second;
+}
+
+// Copies four of them, at `from`, from + step, .. in src, as four bytes are.
+fn copy_four_words(src: &[u8], dst: &mut [u8], from: usize, step: usize, to: usize)
+    requires { ⌜ (from + 3 * step + 2 ≤ length (now src)) × (to + 8 ≤ length (now dst)) ⌝ }
+    ensures { λ _. ⌜ now (dst .exit) ≡ sets (now (dst .entry)) to (pieces (now (src .entry)) from step 2 4) ⌝ }
+{
+    copy_word(src, dst, from, to);
+    copy_word(src, dst, from + step, to + 2);
+    copy_word(src, dst, from + 2 * step, to + 4);
+    copy_word(src, dst, from + 3 * step, to + 6);
+}
+
+// Copies a sample of one byte or two, at `from` in src, to the place `to` of dst.
+fn copy_sample(src: &[u8], dst: &mut [u8], from: usize, size: usize, to: usize)
+    requires { ⌜ (1 ≤ size) × (size ≤ 2) × (from + size ≤ length (now src)) × (to + size ≤ length (now dst)) ⌝ }
+    ensures { λ _. ⌜ now (dst .exit) ≡ sets (now (dst .entry)) to (part (now (src .entry)) from size) ⌝ }
+{
+    if size == 1 {
+        dst[to] = src[from];
+        return;
+    }
+    copy_word(src, dst, from, to);
+}
+
+// Copies four of them, at `from`, from + step, .. in src.
+fn copy_four_samples(src: &[u8], dst: &mut [u8], from: usize, step: usize, size: usize, to: usize)
+    requires { ⌜ (1 ≤ size) × (size ≤ 2) × (from + 3 * step + size ≤ length (now src)) × (to + 4 * size ≤ length (now dst)) ⌝ }
+    ensures { λ _. ⌜ now (dst .exit) ≡ sets (now (dst .entry)) to (pieces (now (src .entry)) from step size 4) ⌝ }
+{
+    if size == 1 {
+        copy_four(src, dst, from, step, to);
+        return;
+    }
+    copy_four_words(src, dst, from, step, to);
+}
+
+// Copies `count` of them, at `at`, at + step, .. in src, to the front of dst: four at a time, and then the rest.
+fn copy_by_four(src: &[u8], dst: &mut [u8], at: usize, step: usize, size: usize, count: usize)
+    requires { ⌜ (1 ≤ size) × (size ≤ 2) × (at + size ≤ step) × (count * step ≤ length (now src)) × (count * size ≤ length (now dst)) ⌝ }
+    ensures { λ _. ⌜ now (dst .exit) ≡ over (pieces (now (src .entry)) at step size count) (now (dst .entry)) ⌝ }
 {
     let mut k = 0;
     let mut from = at;
     while 4 <= count - k {
-        copy_four(src, dst, from, step, k);
+        copy_four_samples(src, dst, from, step, size, k * size);
         from += 4 * step;
         k += 4;
     }
     while k < count {
-        dst[k] = src[at + k * step];
+        copy_sample(src, dst, at + k * step, size, k * size);
         k += 1;
     }
 }
@@ -170,7 +282,8 @@ fn copy_halves(src: &[u8], dst: &mut [u8], at: usize, count: usize)
     }
 }
 
-// Copies `count` samples of `size` bytes, at `at`, at + step, .. in src, to the front of dst.
+// Copies `count` samples of `size` bytes, at `at`, at + step, .. in src, to the front of dst. Every second sample of 16 bits goes piece by piece, which the
+// compiler makes many at once of.
 fn copy_spread(src: &[u8], dst: &mut [u8], at: usize, step: usize, size: usize, count: usize)
     requires { ⌜ (at + size ≤ step) × (count * step ≤ length (now src)) × (count * size ≤ length (now dst)) ⌝ }
     ensures { λ _. ⌜ now (dst .exit) ≡ over (pieces (now (src .entry)) at step size count) (now (dst .entry)) ⌝ }
@@ -180,13 +293,17 @@ fn copy_spread(src: &[u8], dst: &mut [u8], at: usize, step: usize, size: usize, 
             copy_halves(src, dst, at, count);
             return;
         }
-        copy_singles(src, dst, at, step, count);
+        copy_by_four(src, dst, at, step, 1, count);
+        return;
+    }
+    if size == 2 && step != 4 {
+        copy_by_four(src, dst, at, step, 2, count);
         return;
     }
     copy_pieces(src, dst, at, step, size, count);
 }
 
-// Copies the first `w` bytes of each of `count` rows of `stride` bytes, at once where a row has no others, `lead` of them first.
+// Copies the first `w` bytes of each of `count` rows of `stride` bytes: at once where a row has no others, `lead` of them first; else row by row.
 pub fn copy_whole(src: &[u8], dst: &mut [u8], stride: usize, w: usize, count: usize, lead: usize)
     requires { ⌜ (w ≤ stride) × (count * stride ≤ length (now src)) × (count * w ≤ length (now dst)) ⌝ }
     ensures { λ _. ⌜ now (dst .exit) ≡ over (pieces (now (src .entry)) 0 stride w count) (now (dst .entry)) ⌝ }
@@ -196,7 +313,11 @@ pub fn copy_whole(src: &[u8], dst: &mut [u8], stride: usize, w: usize, count: us
         copy_with_lead(&src[0..n], &mut dst[0..n], lead);
         return;
     }
-    copy_pieces(src, dst, 0, stride, w, count);
+    if w < LONG_ROW {
+        copy_pieces(src, dst, 0, stride, w, count);
+        return;
+    }
+    copy_apart(src, dst, stride, w, count, lead);
 }
 
 // Copies one component of each row: a row is `stride` bytes, and its `width` samples of `size` bytes are `step` bytes apart.

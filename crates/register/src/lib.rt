@@ -101,7 +101,7 @@ fn put_entry(map: &[u8], at: usize, n: usize, buffer: &mut [u8], count: u64)
     }
 }
 
-// One pass over the map's data: the place of each frame that an entry names. The last entry of a name stays.
+// One pass over the map's data: the place of each frame that an entry names. Of several entries with one name the last stays.
 fn put_entries(map: &[u8], buffer: &mut [u8], count: u64)
     requires { ⌜ 24 * count ≤ length (now buffer) ⌝ }
     ensures { λ _. ⌜ ((es : List MapEntry) → mapEntries (now (map .entry)) ≡ given es

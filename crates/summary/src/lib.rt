@@ -77,7 +77,7 @@ fn has_axis(u: Summary, a: Axis, from: usize) -> bool
     false
 }
 
-// A loop count that is not 1 to 1,000,000, or an axis that repeats.
+// A loop with the count 0 or one over 1,000,000, or with the axis of another.
 fn bad_loops(u: Summary) -> bool
     ensures { λ r. ⌜ r ≡ badLoops (loopsOf u) ⌝ }
 {
@@ -119,7 +119,7 @@ pub fn bad_summary(file: &[u8], u: Summary) -> bool
         | outside(file, map)
 }
 
-// How many values an axis has: an absent one has one.
+// How many values an axis has: 1 where no loop runs over it.
 pub fn count_of(u: Summary, a: Axis) -> u64
     ensures { λ r. ⌜ r ≡ countOf a (loopsOf u) ⌝ }
 {
@@ -135,7 +135,7 @@ pub fn count_of(u: Summary, a: Axis) -> u64
     1
 }
 
-// Row 21: scene, t, c or z not below its count.
+// Number 21: an index is out of range.
 pub fn bad_index(u: Summary, scene: u64, t: u64, c: u64, z: u64) -> bool
     ensures { λ r. ⌜ r ≡ badIndex u scene t c z ⌝ }
 {
@@ -155,7 +155,7 @@ fn index_of(a: Axis, scene: u64, t: u64, z: u64) -> u64
     }
 }
 
-// The number of a frame: from 0, for each loop, times its count plus its index.
+// The number of a frame: 0 to begin with, then n × count + index for each loop, from the outside in.
 pub fn seq_index(u: Summary, scene: u64, t: u64, z: u64) -> u64
     requires { ⌜ Counted (loopsOf u) × Distinct (loopsOf u) × Within (loopsOf u) scene t z ⌝ }
     ensures { λ r. ⌜ r ≡ seqIndex (loopsOf u) scene t z ⌝ }

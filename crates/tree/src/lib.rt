@@ -70,7 +70,7 @@ fn end_level(c: Cursor, count: usize, used: usize) -> Step
     }
 }
 
-// The entry of the record n, with `size` bytes of value at `at`. Positions count from the file's start.
+// The entry of the record n, with `size` bytes of value at `at`. Its positions are those in the file.
 fn entry_of(base: u64, parent: u64, n: Name, at: usize, size: usize) -> Entry
     requires { ⌜ (base + n .start + 2 < 2 ^ 64) × (base + at < 2 ^ 64) ⌝ }
     ensures { λ r. ⌜ r ≡ entryFor base parent n at size ⌝ }

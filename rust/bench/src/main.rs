@@ -4,12 +4,13 @@
 //!           [--entries N] [--names N] [--shrink N] [--seconds N] [--repetitions N]
 //!
 //! ORIGINAL_FOLDER has the original's nd2_reader.rs, calibration.rs, types.rs and guard.rs; without it the original is
-//! left out. The folder of --before has the libcapi.a of an earlier build, which opens the levels of names and the odd files
-//! too. Planes have N x N samples (--side, 2048); those of the roller, of which there are 528, N x N too (--roller-side, 512:
-//! with 2048 the roller has 4.4 GB and as much memory is needed). Odd files are slow on purpose: they have one Nth of their
-//! sizes (--shrink, 1), and after N seconds no further round of such a row begins (--seconds, 10). All contenders take turns
-//! in this one process, and the best time of each counts. The exit status is 1 where a target is missed; one that needs the
-//! original or a C compiler, where that is left out, is told as not run.
+//! left out. The folder of --before has the libnd2.a of an earlier build, or its libcapi.a, which opens the levels of names
+//! and the odd files too. Planes have N x N samples (--side, 2048); those of the roller, of which there are 528, N x N too
+//! (--roller-side, 512: with 2048 the roller has 4.4 GB and as much memory is needed). Odd files are slow on purpose: they
+//! have one Nth of their sizes (--shrink, 1), and after N seconds no further round of such a row begins (--seconds, 10). All
+//! contenders take turns in this one process, and the best time of each counts. The exit status is 1 where a target is
+//! missed, or a call takes more stack than include/nd2.h says; a target that needs the original or a C compiler, where that
+//! is left out, is told as not run.
 
 mod before;
 mod cases;
@@ -20,20 +21,22 @@ mod library;
 mod maps;
 mod memory;
 mod names;
+mod nested;
 mod odd;
 mod opening;
 mod original;
 mod planes;
 mod roller;
 mod sheets;
+mod stack;
 mod table;
 mod timing;
 
-use nd2::raw::read_plane;
-use nd2::{Reader, Sheet};
+use nd2::Reader;
 use opening::Others;
 use original::Original;
 use sample::parts::Sizes;
+use stack::Deepest;
 use std::io;
 use std::ops::RangeInclusive;
 use std::path::PathBuf;
@@ -156,7 +159,8 @@ fn main() -> ExitCode {
     let memory = Memory::measured(options.side, others.original);
     let verdicts = times(&options, others);
     memory.print();
-    ExitCode::from(verdicts.contains(&Verdict::Missed) as u8)
+    let missed = verdicts.contains(&Verdict::Missed) || !memory.stack_holds();
+    ExitCode::from(missed as u8)
 }
 
 /// The contenders that are loaded.
@@ -227,8 +231,7 @@ struct Memory {
     /// Kilobytes, where the system tells them.
     proved: Option<i64>,
     original: Option<Option<i64>>,
-    /// Bytes of stack.
-    stack: io::Result<usize>,
+    stack: io::Result<Deepest>,
 }
 
 impl Memory {
@@ -250,7 +253,7 @@ impl Memory {
             side,
             proved,
             original: theirs,
-            stack: memory::stack(all_calls(&files::deep())),
+            stack: stack::deepest(),
         }
     }
 
@@ -271,25 +274,13 @@ impl Memory {
             );
         }
         match &self.stack {
-            Ok(bytes) => {
-                println!("  stack     {bytes} bytes in the nine calls, on a tree of 64 levels too (with the table of entries)")
-            }
+            Ok(deepest) => println!("  stack     {}", deepest.told()),
             Err(error) => println!("  stack     {error}"),
         }
     }
-}
 
-/// Every call once, on a file that has a tree as deep as they come.
-fn all_calls(file: &[u8]) -> impl FnMut() + '_ {
-    let mut table = vec![1; cases::TABLE_BYTES];
-    move || {
-        let reader = Reader::open(file).expect("it opens");
-        assert_eq!(reader.tree(files::DEEP).expect("a tree").len(), 65);
-        let mut samples = reader.plane(0, 0, 1, 0).expect("a plane");
-        assert!(reader.channels().is_ok() && reader.register().is_ok());
-        assert_eq!(reader.picometres(), Ok(325_000));
-        let sheet = reader.sheet(0, 0, 1, 0).expect("a sheet");
-        assert_eq!(Sheet::read(&sheet).expect("a sheet").samples, samples);
-        assert_eq!(read_plane(file, &mut table, [0, 0, 1, 0], &mut samples), 0);
+    /// Whether no call takes more stack than the header says, as far as it was measured.
+    fn stack_holds(&self) -> bool {
+        self.stack.as_ref().map_or(true, Deepest::within_bound)
     }
 }

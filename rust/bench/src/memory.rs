@@ -6,6 +6,9 @@ use std::io;
 
 const STACK_BYTES: usize = 1 << 20;
 const UNTOUCHED: u8 = 0xA5;
+const PAGE_BYTES: usize = 4096;
+/// A part of a stack that was not touched.
+const PAGE: [u8; PAGE_BYTES] = [UNTOUCHED; PAGE_BYTES];
 /// The C library's words of a thread's attributes, with room to spare.
 const ATTRIBUTE_WORDS: usize = 16;
 
@@ -49,7 +52,7 @@ extern "C" fn start(argument: *mut c_void) -> *mut c_void {
 
 /// Runs something on a stack of its own; how many bytes of it were touched.
 fn on_stack(mut run: &mut dyn FnMut()) -> io::Result<usize> {
-    let mut stack = vec![[UNTOUCHED; 4096]; STACK_BYTES / 4096];
+    let mut stack = vec![PAGE; STACK_BYTES / PAGE_BYTES];
     let mut attributes = [0u64; ATTRIBUTE_WORDS];
     let mut thread = 0;
     let memory: *mut c_void = stack.as_mut_ptr().cast();
@@ -64,15 +67,46 @@ fn on_stack(mut run: &mut dyn FnMut()) -> io::Result<usize> {
     if failed {
         return Err(io::Error::other("no thread on a stack of its own"));
     }
-    let untouched = stack
-        .as_flattened()
-        .iter()
-        .take_while(|&&byte| byte == UNTOUCHED);
-    Ok(STACK_BYTES - untouched.count())
+    Ok(STACK_BYTES - untouched(&stack))
+}
+
+/// How many bytes at the far end of a stack were not touched.
+fn untouched(stack: &[[u8; PAGE_BYTES]]) -> usize {
+    let pages = stack.iter().take_while(|&page| *page == PAGE).count();
+    let last = stack.get(pages).map_or(&[][..], |page| page);
+    let bytes = last.iter().take_while(|&&byte| byte == UNTOUCHED);
+    pages * PAGE_BYTES + bytes.count()
 }
 
 /// How many bytes of stack something takes, beyond what a thread takes that does nothing.
 pub fn stack(mut run: impl FnMut()) -> io::Result<usize> {
     let nothing = on_stack(&mut || {})?;
     Ok(on_stack(&mut run)?.saturating_sub(nothing))
+}
+
+#[cfg(test)]
+mod tests {
+    use super::*;
+    use std::hint::black_box;
+
+    #[test]
+    fn what_a_function_takes_is_measured() {
+        let taken = stack(|| {
+            black_box([1u8; 100_000]);
+        });
+        let taken = taken.unwrap();
+        // an array may be made in one place and handed over in another
+        assert!((99_000..210_000).contains(&taken), "{taken}");
+        assert!(stack(|| {}).unwrap() < 1_000);
+    }
+
+    #[test]
+    fn the_far_end_is_counted_to_the_byte() {
+        let mut stack = vec![PAGE; 3];
+        assert_eq!(untouched(&stack), 3 * PAGE_BYTES);
+        stack[2][0] = 0;
+        assert_eq!(untouched(&stack), 2 * PAGE_BYTES);
+        stack[1][7] = 0;
+        assert_eq!(untouched(&stack), PAGE_BYTES + 7);
+    }
 }

@@ -54,15 +54,21 @@ pub fn load(source: &Path) -> io::Result<Original> {
     loaded
 }
 
+/// The bytes of one of the original's files; where it cannot be read, its name is told.
+fn read(path: &Path) -> io::Result<Vec<u8>> {
+    let named = |error| io::Error::other(format!("{}: {error}", path.display()));
+    fs::read(path).map_err(named)
+}
+
 fn build(source: &Path, folder: &Path) -> io::Result<PathBuf> {
     fs::create_dir_all(folder)?;
     for (name, text) in DRIVER {
         fs::write(folder.join(name), text)?;
     }
     for name in UNCHANGED {
-        fs::copy(source.join(name), folder.join(name))?;
+        fs::write(folder.join(name), read(&source.join(name))?)?;
     }
-    let mut text = fs::read(source.join(READER))?;
+    let mut text = read(&source.join(READER))?;
     text.extend_from_slice(b"\n#[path = \"access.rs\"]\npub mod access;\n");
     fs::write(folder.join(READER), text)?;
     let library = folder.join("liboriginal.so");

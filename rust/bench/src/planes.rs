@@ -11,8 +11,8 @@ use std::hint::black_box;
 
 /// Bytes behind the samples of a padded row.
 const PADDING: u64 = 12;
-/// Bytes of samples that a padded row has at least.
-const PADDED_ROW: u64 = 1024;
+/// Bytes of samples that a padded row has at least, and of one that is no whole number of blocks.
+const PADDED_ROWS: [u64; 2] = [1024, 1092];
 
 /// 1 component, the same with padded rows, 2 and 3 components; each with 8, 16 and 32 bits.
 pub fn sizes(side: u64) -> Vec<Sizes> {
@@ -22,11 +22,11 @@ pub fn sizes(side: u64) -> Vec<Sizes> {
     [packed(1).to_vec(), padded.concat(), several].concat()
 }
 
-/// Padded rows: the shortest, and where they are longer those of so many samples.
+/// Padded rows: the short ones, and where they are longer those of so many samples.
 fn padded(side: u64, bits: u64) -> Vec<Sizes> {
-    let least = PADDED_ROW * 8 / bits;
-    let widths = [Some(least), (side > least).then_some(side)];
-    let sizes = widths.into_iter().flatten().map(|width| {
+    let short = PADDED_ROWS.map(|bytes| bytes * 8 / bits);
+    let long = Some(side).filter(|side| short.iter().all(|width| side > width));
+    let sizes = short.into_iter().chain(long).map(|width| {
         let packed = Sizes::packed(width, side, 1, bits);
         let stride = packed.stride + PADDING;
         Sizes { stride, ..packed }

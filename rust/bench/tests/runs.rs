@@ -1,7 +1,5 @@
 //! The program runs through on small files. Whether small files meet the targets is not looked at.
 
-use std::env;
-use std::path::{Path, PathBuf};
 use std::process::{Command, Output};
 
 fn bench(words: &[&str]) -> Output {
@@ -54,7 +52,8 @@ fn every_case_is_in_the_table() {
         "names that begin with a pair",
         "0.5 x original: not run",
         "2 x original: not run",
-        "bytes in the nine calls, on a tree of 64 levels",
+        "bytes at most, in nd2_",
+        "(ND2_STACK_BYTES 65536: met)",
     ] {
         assert!(told.contains(part), "{part:?} is not in {told}");
     }
@@ -115,18 +114,13 @@ fn wrong_words_give_the_usage() {
 }
 
 /// The folder that this build's library was linked from.
-fn library_folder() -> PathBuf {
-    let root = Path::new(env!("CARGO_MANIFEST_DIR")).join("../..");
-    env::var_os("ND2_STATICLIB_DIR").map_or(root.join("target/staticlib"), PathBuf::from)
-}
+const LIBRARY_FOLDER: &str = env!("ND2_LIBRARY_FOLDER");
 
 #[test]
 fn an_earlier_build_takes_its_turns() {
-    let folder = library_folder();
-    let folder = folder.to_str().unwrap();
     let words = ["--only", "names", "--names", "20", "--repetitions", "1"];
     let alone = bench(&words);
-    let beside = bench(&[&words[..], &["--before", folder]].concat());
+    let beside = bench(&[&words[..], &["--before", LIBRARY_FOLDER]].concat());
     // the columns of milliseconds and of ratios
     for (output, known) in [(alone, false), (beside, true)] {
         let told = String::from_utf8(output.stdout).unwrap();
@@ -148,5 +142,6 @@ fn a_folder_without_what_it_should_have_is_told() {
         assert_eq!(output.status.code(), Some(2));
         let told = String::from_utf8(output.stderr).unwrap();
         assert!(told.starts_with("bench: "), "{told}");
+        assert!(told.contains("/no/such/folder"), "{told}");
     }
 }

@@ -1,23 +1,23 @@
-//! `nd2 check`: every plane of every file.
+//! `nd2 check`: every plane of every file, and the frames that are absent.
 
 use crate::arguments::Arguments;
 use crate::failure::{self, Done, Failure};
-use crate::plane::{refused, At};
-use crate::{help, open, text};
-use nd2::{Reader, Summary};
+use crate::plane::{self, refused, At};
+use crate::{open, register, text};
+use nd2::{Reader, Refusal, Register};
 use std::ffi::OsStr;
 use std::io::{self, IsTerminal, Write};
 use std::time::{Duration, Instant};
 
-/// So many refusals of a file are told, each.
+/// So many absent frames of a file are told, and so many refused planes.
 const MOST_TOLD: u64 = 10;
-/// After so many the rest of the file is left out. Since a map has at most 2,000,000 entries, every check comes to an end.
+/// After so many refused planes the rest of the file is left out.
 const MOST_REFUSED: u64 = 1000;
 
 pub fn run(arguments: Arguments) -> Done {
     let paths = arguments.rest()?;
     if paths.is_empty() {
-        return Err(Failure::usage("FILE is missing", help::CHECK));
+        return Err(Failure::usage("FILE is missing", "check"));
     }
     let mut all_read = true;
     for path in &paths {
@@ -38,97 +38,154 @@ pub fn run(arguments: Arguments) -> Done {
 
 /// Checks one file; whether every plane was read.
 fn checked(path: &OsStr) -> Result<bool, Failure> {
-    let file = open::file(path)?;
-    let reader = open::reader(path, &file)?;
-    let mut check = Check::new(path, &reader);
-    for at in places(reader.summary()) {
-        check.plane(at);
-        if check.refused >= MOST_REFUSED {
-            break;
-        }
-    }
-    check.finish()
+    let tally = open::with(path, |file| {
+        let reader = open::reader(path, file)?;
+        let register = register::read(path, &reader)?;
+        Ok(Check::new(path, &reader, &register).run())
+    })?;
+    tally.print(path)?;
+    Ok(tally.is_whole())
 }
 
-/// Every plane, by scene, time, focus step and component.
-fn places(summary: &Summary) -> impl Iterator<Item = At> {
-    let (times, components, steps) = (summary.times(), summary.components, summary.steps());
-    let scenes = (0..summary.scenes()).flat_map(move |scene| (0..times).map(move |t| (scene, t)));
-    let frames = scenes.flat_map(move |(scene, t)| (0..steps).map(move |z| (scene, t, z)));
-    frames.flat_map(move |(scene, t, z)| (0..components).map(move |c| At { scene, t, c, z }))
+/// How many planes there are, and what became of them.
+#[derive(Default)]
+struct Tally {
+    all: u128,
+    read: u64,
+    refused: u64,
+    absent: u128,
+}
+
+impl Tally {
+    fn is_whole(&self) -> bool {
+        self.refused == 0 && self.absent == 0
+    }
+
+    fn tried(&self) -> u128 {
+        u128::from(self.read) + u128::from(self.refused)
+    }
+
+    fn print(&self, path: &OsStr) -> io::Result<()> {
+        let (name, all) = (text::of_os(path), text::many(self.all, "plane"));
+        let mut out = io::stdout().lock();
+        if self.is_whole() {
+            return writeln!(out, "{name}: {all} read");
+        }
+        write!(out, "{name}: of {all} {} read", self.read)?;
+        if self.refused > 0 {
+            write!(out, ", {} refused", self.refused)?;
+        }
+        if self.absent > 0 {
+            write!(out, ", {} absent", self.absent)?;
+        }
+        match self.tried() + self.absent < self.all {
+            true => writeln!(out, ", the others were not tried"),
+            false => writeln!(out),
+        }
+    }
 }
 
 struct Check<'f> {
     path: &'f OsStr,
     reader: &'f Reader<'f>,
+    register: &'f Register<'f>,
     samples: Vec<u8>,
-    read: u64,
-    refused: u64,
+    tally: Tally,
     progress: Progress,
 }
 
 impl<'f> Check<'f> {
-    fn new(path: &'f OsStr, reader: &'f Reader<'f>) -> Check<'f> {
-        // a plane that is larger than its file is refused before its buffer is looked at
-        let bytes = usize::try_from(reader.summary().plane_bytes());
-        let bytes = bytes.ok().filter(|&bytes| bytes <= reader.bytes().len());
+    fn new(path: &'f OsStr, reader: &'f Reader<'f>, register: &'f Register<'f>) -> Check<'f> {
+        let components = u128::from(reader.summary().components);
+        let tally = Tally {
+            all: plane::count(reader.summary()),
+            absent: u128::from(register.absent()) * components,
+            ..Tally::default()
+        };
         Check {
             path,
             reader,
-            samples: vec![0; bytes.unwrap_or(0)],
-            read: 0,
-            refused: 0,
+            register,
+            samples: Vec::new(),
+            tally,
             progress: Progress::new(),
         }
     }
 
+    /// Tells of the frames that are absent, and reads every plane of the others.
+    fn run(mut self) -> Tally {
+        self.absent();
+        for at in planes(self.register, self.reader.summary().components) {
+            if self.tally.refused >= MOST_REFUSED {
+                break;
+            }
+            self.plane(at);
+        }
+        self.progress.clear();
+        self.more("planes refused", self.tally.refused);
+        self.tally
+    }
+
+    /// Tells the first absent frames. A map has at most 2,000,000 entries, so that they are soon found.
+    fn absent(&self) {
+        let absent = self.register.absent();
+        let frames = self.register.iter().filter(|frame| !frame.is_present());
+        for frame in frames.take(absent.min(MOST_TOLD) as usize) {
+            let place = format!("scene {}, t {}, z {}", frame.scene, frame.t, frame.z);
+            let name = text::of_os(self.path);
+            failure::tell(&format!("{name}: frame at {place}: {}", Refusal::NO_FRAME));
+        }
+        self.more("frames absent", absent);
+    }
+
+    /// Tells how many more there are than were told.
+    fn more(&self, what: &str, many: u64) {
+        if many > MOST_TOLD {
+            let name = text::of_os(self.path);
+            failure::tell(&format!("{name}: {} more {what}", many - MOST_TOLD));
+        }
+    }
+
     fn plane(&mut self, at: At) {
-        let answer = self
-            .reader
-            .plane_into(at.scene, at.t, at.c, at.z, &mut self.samples);
-        match answer {
-            Ok(()) => self.read += 1,
+        match self.read(at) {
+            Ok(()) => self.tally.read += 1,
             Err(refusal) => {
-                self.refused += 1;
-                if self.refused <= MOST_TOLD {
+                self.tally.refused += 1;
+                if self.tally.refused <= MOST_TOLD {
                     self.progress.clear();
                     tell(refused(self.path, self.reader, at, refusal));
                 }
             }
         }
-        let (path, done) = (self.path, self.read + self.refused);
-        let all = self.reader.summary().planes();
+        let (path, done, all) = (self.path, self.tally.tried(), self.tally.all);
+        let there = all - self.tally.absent;
         self.progress
-            .show(|| format!("{}: {done} of {all} planes", text::of_os(path)));
+            .show(|| format!("{}: {done} of {there} planes", text::of_os(path)));
     }
 
-    /// Says how many planes were read; whether all were.
-    fn finish(mut self) -> Result<bool, Failure> {
-        self.progress.clear();
-        let name = text::of_os(self.path);
-        let all = self.reader.summary().planes();
-        let mut out = io::stdout().lock();
-        if self.refused == 0 {
-            writeln!(out, "{name}: {all} planes read")?;
-            return Ok(true);
+    /// Reads a plane into the samples, which are made when the first plane needs them.
+    fn read(&mut self, at: At) -> Result<(), Refusal> {
+        let At { scene, t, c, z } = at;
+        match self.reader.plane_into(scene, t, c, z, &mut self.samples) {
+            Err(Refusal::BUFFER) => {
+                self.samples = self.reader.plane(scene, t, c, z)?;
+                Ok(())
+            }
+            answer => answer,
         }
-        let stopped = match self.read + self.refused < all {
-            true => ", the others were not tried",
-            false => "",
-        };
-        writeln!(
-            out,
-            "{name}: of {all} planes {} read, {} refused{stopped}",
-            self.read, self.refused
-        )?;
-        if self.refused > MOST_TOLD {
-            failure::tell(&format!(
-                "{name}: {} more planes refused",
-                self.refused - MOST_TOLD
-            ));
-        }
-        Ok(false)
     }
+}
+
+/// Every plane of the frames that the map has.
+fn planes<'f>(register: &'f Register, components: u64) -> impl Iterator<Item = At> + 'f {
+    register.iter_present().flat_map(move |frame| {
+        (0..components).map(move |c| At {
+            scene: frame.scene.into(),
+            t: frame.t.into(),
+            c,
+            z: frame.z.into(),
+        })
+    })
 }
 
 fn tell(what: Failure) {

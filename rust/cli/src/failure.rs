@@ -1,11 +1,12 @@
 //! How a command ends that does not end well.
 
+use nd2::Refusal;
 use std::fmt::Display;
 use std::io::{self, Write};
 
 pub enum Failure {
-    /// What is wrong with the words of the command, and its usage.
-    Usage(String, &'static str),
+    /// What is wrong with the words of a command, and which command that is, if it is one.
+    Usage(String, Option<&'static str>),
     /// What is wrong, and where.
     Error(String),
     /// Something is wrong that was told already.
@@ -17,13 +18,21 @@ pub enum Failure {
 pub type Done = Result<(), Failure>;
 
 impl Failure {
-    pub fn usage(what: impl Into<String>, usage: &'static str) -> Failure {
-        Failure::Usage(what.into(), usage)
+    pub fn usage(what: impl Into<String>, command: &'static str) -> Failure {
+        Failure::Usage(what.into(), Some(command))
     }
 
     /// An error at a place.
     pub fn at(place: impl Display, what: impl Display) -> Failure {
         Failure::Error(format!("{place}: {what}"))
+    }
+
+    /// A refusal at a place; 25 is no memory here, since no command lends a short buffer.
+    pub fn refused(place: impl Display, refusal: Refusal) -> Failure {
+        match refusal {
+            Refusal::BUFFER => Failure::at(place, format!("{refusal}; there is no memory for it")),
+            _ => Failure::at(place, refusal),
+        }
     }
 }
 
@@ -42,6 +51,8 @@ pub fn tell(what: &str) {
     let _ = writeln!(io::stderr(), "nd2: {what}");
 }
 
-pub fn tell_usage(usage: &str) {
-    let _ = write!(io::stderr(), "{usage}");
+/// Says where more is said of a command, or of all.
+pub fn tell_help(command: Option<&str>) {
+    let command = command.map_or(String::new(), |command| format!(" {command}"));
+    let _ = writeln!(io::stderr(), "try: nd2 help{command}");
 }

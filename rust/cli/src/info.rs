@@ -2,35 +2,32 @@
 
 use crate::arguments::Arguments;
 use crate::failure::{Done, Failure};
-use crate::{json, misnamed, open, text};
+use crate::plane::count as planes;
+use crate::{json, misnamed, open, register, text};
 use nd2::{Axis, Channel, Loop, Reader, Refusal, State, Summary, ZStep};
 use std::ffi::OsStr;
 use std::io::{self, Write};
 
 /// The map's name for the calibration.
 const CALIBRATION: &[u8] = b"ImageCalibrationLV|0!";
-/// The frames of more than these are not looked up.
-const MOST_FRAMES: u64 = 10_000_000;
 
 struct Info<'f> {
     path: &'f OsStr,
     bytes: usize,
-    summary: &'f Summary,
+    summary: Summary,
     /// The size of a pixel in picometres, if it has a number of them.
     picometres: Option<u64>,
     /// Where the map leads instead of to the calibration.
     misnamed: Option<String>,
     channels: Vec<Channel>,
-    /// How many frames the map has, if they were looked up.
-    present: Option<u64>,
+    /// How many frames the map has.
+    present: u64,
 }
 
 pub fn run(mut arguments: Arguments) -> Done {
     let as_json = arguments.flag("--json");
     let [path] = arguments.all(["FILE"])?;
-    let file = open::file(&path)?;
-    let reader = open::reader(&path, &file)?;
-    let info = gathered(&path, &reader)?;
+    let info = open::with(&path, |file| gathered(&path, &open::reader(&path, file)?))?;
     let mut out = io::BufWriter::new(io::stdout().lock());
     match as_json {
         true => writeln!(out, "{}", info.json())?,
@@ -39,27 +36,19 @@ pub fn run(mut arguments: Arguments) -> Done {
     Ok(out.flush()?)
 }
 
-fn gathered<'f>(path: &'f OsStr, reader: &'f Reader) -> Result<Info<'f>, Failure> {
+fn gathered<'f>(path: &'f OsStr, reader: &Reader) -> Result<Info<'f>, Failure> {
     let refused = |what: &'static str| {
         move |refusal| Failure::at(format!("{}: {what}", text::of_os(path)), refusal)
-    };
-    let summary = reader.summary();
-    let present = match summary.frames() <= MOST_FRAMES {
-        true => {
-            let frames = reader.register().map_err(refused("register"))?;
-            Some(frames.iter().filter(|frame| frame.is_present()).count() as u64)
-        }
-        false => None,
     };
     let (picometres, misnamed) = picometres(reader).map_err(refused("pixel size"))?;
     Ok(Info {
         path,
         bytes: reader.bytes().len(),
-        summary,
+        summary: reader.summary().clone(),
         picometres,
         misnamed,
         channels: reader.channels().map_err(refused("channels"))?,
-        present,
+        present: register::read(path, reader)?.present(),
     })
 }
 
@@ -76,9 +65,9 @@ fn picometres(reader: &Reader) -> Result<(Option<u64>, Option<String>), Refusal>
 
 fn axis_name(axis: Axis) -> &'static str {
     match axis {
-        Axis::T => "times",
-        Axis::Z => "focus steps",
-        Axis::P => "points",
+        Axis::T => "time",
+        Axis::Z => "focus step",
+        Axis::P => "point",
     }
 }
 
@@ -91,7 +80,7 @@ fn color(channel: &Channel) -> String {
 
 impl Info<'_> {
     fn print(&self, out: &mut impl Write) -> io::Result<()> {
-        let s = self.summary;
+        let s = &self.summary;
         writeln!(out, "{}", text::of_os(self.path))?;
         writeln!(out, "  bytes       {}", self.bytes)?;
         writeln!(
@@ -110,11 +99,11 @@ impl Info<'_> {
             writeln!(out, "  channel {i:<3} {name}, {}", color(channel))?;
         }
         writeln!(out, "  frames      {}", self.frames())?;
-        writeln!(out, "  planes      {}", s.planes())
+        writeln!(out, "  planes      {}", planes(s))
     }
 
     fn loops(&self) -> String {
-        let one = |l: &Loop| format!("{} {}", l.count, axis_name(l.axis));
+        let one = |l: &Loop| text::many(l.count, axis_name(l.axis));
         let loops: Vec<String> = self.summary.loops.iter().map(one).collect();
         match loops.is_empty() {
             true => "none".to_string(),
@@ -150,19 +139,18 @@ impl Info<'_> {
     }
 
     fn frames(&self) -> String {
-        let frames = self.summary.frames();
-        match self.present {
-            Some(present) => format!("{frames}: {present} present, {} absent", frames - present),
-            None => format!("{frames}, too many to look up"),
-        }
+        let (frames, present) = (self.summary.frames(), self.present);
+        format!("{frames}: {present} present, {} absent", frames - present)
     }
 
     fn json(&self) -> String {
-        let s = self.summary;
+        let s = &self.summary;
+        let (file, file_bytes) = json::path(self.path);
         let axis = |l: &Loop| json::string(&format!("{:?}", l.axis));
         let one = |l: &Loop| json::object([("axis", axis(l)), ("count", l.count.to_string())]);
         json::object([
-            ("file", json::string(&self.path.to_string_lossy())),
+            ("file", file),
+            ("file_bytes", file_bytes),
             ("bytes", self.bytes.to_string()),
             ("width", s.width.to_string()),
             ("height", s.height.to_string()),
@@ -174,17 +162,15 @@ impl Info<'_> {
             ("pixel_size", pixel_size_json(s)),
             ("picometres", json::or_null(self.picometres)),
             ("z_step", z_step_json(s.z_step)),
+            ("z_step_state", json::string(z_step_state(s.z_step))),
             (
                 "channels",
                 json::array(self.channels.iter().map(channel_json)),
             ),
             ("frames", s.frames().to_string()),
-            ("present", json::or_null(self.present)),
-            (
-                "absent",
-                json::or_null(self.present.map(|n| s.frames() - n)),
-            ),
-            ("planes", s.planes().to_string()),
+            ("present", self.present.to_string()),
+            ("absent", (s.frames() - self.present).to_string()),
+            ("planes", planes(s).to_string()),
         ])
     }
 }
@@ -206,6 +192,15 @@ fn z_step_json(step: ZStep) -> String {
     match step {
         ZStep::Stated(step) => json::float(step),
         _ => json::null(),
+    }
+}
+
+fn z_step_state(step: ZStep) -> &'static str {
+    match step {
+        ZStep::Stated(_) => "stated",
+        ZStep::Unstated => "unstated",
+        ZStep::Smaller => "smaller",
+        ZStep::Larger => "larger",
     }
 }
 

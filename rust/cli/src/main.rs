@@ -11,16 +11,18 @@ mod info;
 mod json;
 mod misnamed;
 mod open;
+mod output;
 mod plane;
 mod register;
 mod sample_file;
 mod sheet;
+mod signals;
 mod text;
 mod tree;
 
 use arguments::Arguments;
 use failure::{Done, Failure};
-use std::ffi::OsString;
+use std::ffi::{OsStr, OsString};
 use std::io::Write;
 use std::process::ExitCode;
 
@@ -41,6 +43,7 @@ const COMMANDS: [Command; 7] = [
 ];
 
 fn main() -> ExitCode {
+    signals::watch();
     let words: Vec<OsString> = std::env::args_os().skip(1).collect();
     match run(words) {
         Ok(()) | Err(Failure::Closed) => ExitCode::SUCCESS,
@@ -49,9 +52,9 @@ fn main() -> ExitCode {
             failure::tell(&what);
             ExitCode::from(REFUSED)
         }
-        Err(Failure::Usage(what, usage)) => {
+        Err(Failure::Usage(what, command)) => {
             failure::tell(&what);
-            failure::tell_usage(usage);
+            failure::tell_help(command);
             ExitCode::from(WRONG_USAGE)
         }
     }
@@ -59,23 +62,44 @@ fn main() -> ExitCode {
 
 fn run(mut words: Vec<OsString>) -> Done {
     if words.is_empty() {
-        return Err(Failure::usage("no command", help::ALL));
+        return Err(Failure::Usage("no command".to_string(), None));
     }
     let first = words.remove(0);
     match first.to_str() {
-        Some("--help" | "-h" | "help") => return print(help::ALL),
+        Some("--help" | "-h" | "help") => return print(help_on(&words)?),
         Some("--version" | "-V") => return print(concat!("nd2 ", env!("CARGO_PKG_VERSION"), "\n")),
         _ => {}
     }
-    let command = COMMANDS.iter().find(|(name, ..)| first == *name);
-    let Some((_, command, help)) = command else {
-        let what = format!("no such command: {}", text::of_os(&first));
-        return Err(Failure::usage(what, help::ALL));
-    };
+    let (name, command, help) = found(&first)?;
     if arguments::asks_for_help(&words) {
         return print(help);
     }
-    command(Arguments::new(words, help))
+    command(Arguments::new(words, name))
+}
+
+/// The command of a name.
+fn found(name: &OsStr) -> Result<Command, Failure> {
+    let command = COMMANDS.iter().find(|(command, ..)| name == *command);
+    let what = match name.as_encoded_bytes().starts_with(b"-") {
+        true => "option",
+        false => "command",
+    };
+    let unknown = || Failure::Usage(format!("no such {what}: {}", text::of_os(name)), None);
+    command.copied().ok_or_else(unknown)
+}
+
+/// The help on a command, on words, or on all.
+fn help_on(words: &[OsString]) -> Result<&'static str, Failure> {
+    match words {
+        [] => Ok(help::ALL),
+        [word] if word == "words" => Ok(help::WORDS),
+        [word] if word == "help" => Ok(help::ALL),
+        [command] => found(command).map(|(_, _, help)| help),
+        [_, surplus, ..] => {
+            let what = format!("one word too many: {}", text::of_os(surplus));
+            Err(Failure::Usage(what, None))
+        }
+    }
 }
 
 fn print(text: &str) -> Done {

@@ -15,7 +15,7 @@ pub fn failure(place: String, refusal: Refusal, file: &[u8], names: &[&[u8]]) ->
     let misnamed = refusal == Refusal::CHUNK_NAME;
     match misnamed.then(|| told(file, names)).flatten() {
         Some(told) => Failure::at(place, format!("{refusal}; {told}")),
-        None => Failure::at(place, refusal),
+        None => Failure::refused(place, refusal),
     }
 }
 

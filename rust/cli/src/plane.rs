@@ -2,11 +2,11 @@
 
 use crate::arguments::Arguments;
 use crate::failure::{Done, Failure};
-use crate::{help, misnamed, open, text};
-use nd2::{Axis, Reader, Refusal, Summary};
+use crate::{misnamed, open, output, text};
+use nd2::{Axis, File, Reader, Refusal, Summary};
 use std::ffi::{OsStr, OsString};
 use std::fs;
-use std::io::{self, BufWriter, Write};
+use std::io::{self, Write};
 use std::os::unix::fs::MetadataExt;
 use std::path::Path;
 
@@ -34,36 +34,52 @@ pub struct At {
     pub z: u64,
 }
 
+/// A plane as it is to be written.
+struct Picture {
+    form: Form,
+    summary: Summary,
+    bytes: Vec<u8>,
+}
+
 pub fn run(mut arguments: Arguments) -> Done {
     let asked = Asked {
-        scene: arguments.number("--scene")?,
-        t: arguments.number("--t")?,
-        c: arguments.number("--c")?,
-        z: arguments.number("--z")?,
+        scene: arguments.number(&["--scene", "--point"])?,
+        t: arguments.number(&["--t", "--time"])?,
+        c: arguments.number(&["--c", "--channel", "--lamp"])?,
+        z: arguments.number(&["--z", "--focus"])?,
     };
-    let output = arguments.value("-o")?;
+    let force = arguments.flag("--force");
+    let output = arguments.value(&["-o"])?;
     let [path] = arguments.all(["FILE"])?;
-    let output = output.ok_or_else(|| wrong("-o is missing"))?;
+    let (_, output) = output.ok_or_else(|| wrong("-o is missing"))?;
     let form = form(&output)?;
-    let file = open::file(&path)?;
-    let reader = open::reader(&path, &file)?;
-    let at = asked.at(reader.summary())?;
-    if form == Form::Pgm && reader.summary().bits == 32 {
-        let what = "samples of 32 bits do not fit a PGM; write them to a .tif or a .raw file";
-        return Err(Failure::at(text::of_os(&path), what));
-    }
     different(&path, &output)?;
+    output::free(&output, force)?;
+    let picture = open::with(&path, |file| picture(&path, file, &asked, form))?;
+    output::write(&output, force, |out| picture.write(out))
+}
+
+fn picture(path: &OsStr, file: &File, asked: &Asked, form: Form) -> Result<Picture, Failure> {
+    let reader = open::reader(path, file)?;
+    let summary = reader.summary();
+    let at = asked.at(summary)?;
+    if form == Form::Pgm && summary.bits == 32 {
+        let what = "samples of 32 bits do not fit a PGM; write them to a .tif or a .raw file";
+        return Err(Failure::at(text::of_os(path), what));
+    }
     let read = match form {
         Form::Sheet => reader.sheet(at.scene, at.t, at.c, at.z),
         Form::Pgm | Form::Raw => reader.plane(at.scene, at.t, at.c, at.z),
     };
-    let bytes = read.map_err(|refusal| refused(&path, &reader, at, refusal))?;
-    let written = write(&output, form, reader.summary(), &bytes);
-    written.map_err(|error| Failure::at(text::of_os(&output), error))
+    Ok(Picture {
+        form,
+        summary: summary.clone(),
+        bytes: read.map_err(|refusal| refused(path, &reader, at, refusal))?,
+    })
 }
 
 fn wrong(what: impl Into<String>) -> Failure {
-    Failure::usage(what, help::PLANE)
+    Failure::usage(what, "plane")
 }
 
 fn form(output: &OsStr) -> Result<Form, Failure> {
@@ -83,16 +99,21 @@ impl Asked {
     /// An index that was not given is 0, where there is nothing to choose.
     fn at(&self, summary: &Summary) -> Result<At, Failure> {
         let index = |name: &str, given: Option<u64>, count: u64| match given {
-            None if count > 1 => Err(wrong(format!("{name} is missing: it is one of {count}"))),
+            None if count > 1 => Err(wrong(format!("{name} is missing: {}", range(count)))),
             given => Ok(given.unwrap_or(0)),
         };
         Ok(At {
-            scene: index("--scene", self.scene, summary.scenes())?,
-            t: index("--t", self.t, summary.times())?,
-            c: index("--c", self.c, summary.components)?,
-            z: index("--z", self.z, summary.steps())?,
+            scene: index("--scene (the point)", self.scene, summary.scenes())?,
+            t: index("--t (the time)", self.t, summary.times())?,
+            c: index("--c (the channel)", self.c, summary.components)?,
+            z: index("--z (the focus step)", self.z, summary.steps())?,
         })
     }
+}
+
+/// How many planes the loops make; these may be more than 2^64.
+pub fn count(summary: &Summary) -> u128 {
+    u128::from(summary.frames()) * u128::from(summary.components)
 }
 
 impl At {
@@ -121,7 +142,15 @@ impl std::fmt::Display for At {
     }
 }
 
-/// What is wrong with a plane; of indices that are too large how many there are, of a frame in a chunk of another name which.
+/// The indices that there are of so many.
+fn range(count: u64) -> String {
+    match count {
+        0 | 1 => "0".to_string(),
+        count => format!("0 to {}", count - 1),
+    }
+}
+
+/// What is wrong with a plane; of indices that are too large what they may be, of a frame in a chunk of another name which.
 pub fn refused(path: &OsStr, reader: &Reader, at: At, refusal: Refusal) -> Failure {
     let s = reader.summary();
     let place = format!("{}: plane at {at}", text::of_os(path));
@@ -129,14 +158,17 @@ pub fn refused(path: &OsStr, reader: &Reader, at: At, refusal: Refusal) -> Failu
         let frame = at.frame(s);
         return misnamed::failure(place, refusal, reader.bytes(), &[frame.as_bytes()]);
     }
-    let counts = format!(
-        "there are {} scenes, {} times, {} components and {} focus steps",
-        s.scenes(),
-        s.times(),
-        s.components,
-        s.steps()
-    );
-    Failure::at(place, format!("{refusal}; {counts}"))
+    let indices = [
+        ("scene", at.scene, s.scenes()),
+        ("t", at.t, s.times()),
+        ("c", at.c, s.components),
+        ("z", at.z, s.steps()),
+    ];
+    let over = indices.iter().filter(|(_, index, count)| index >= count);
+    let over: Vec<String> = over
+        .map(|(name, _, count)| format!("{name} is {}", range(*count)))
+        .collect();
+    Failure::at(place, format!("{refusal}; {}", over.join(", ")))
 }
 
 /// A file is not written over the one that it is read from.
@@ -150,14 +182,13 @@ fn different(path: &OsStr, output: &OsString) -> Done {
     }
 }
 
-/// Writes a sheet or samples.
-fn write(output: &OsStr, form: Form, summary: &Summary, bytes: &[u8]) -> io::Result<()> {
-    let mut out = BufWriter::new(fs::File::create(output)?);
-    match form {
-        Form::Sheet | Form::Raw => out.write_all(bytes)?,
-        Form::Pgm => write_pgm(&mut out, summary, bytes)?,
+impl Picture {
+    fn write(&self, out: &mut impl Write) -> io::Result<()> {
+        match self.form {
+            Form::Sheet | Form::Raw => out.write_all(&self.bytes),
+            Form::Pgm => write_pgm(out, &self.summary, &self.bytes),
+        }
     }
-    out.flush()
 }
 
 /// A binary PGM, whose samples of 16 bits are big-endian.

@@ -1,11 +1,9 @@
 //! `nd2 sample`: a small roller.
 
 use crate::arguments::Arguments;
-use crate::failure::{Done, Failure};
-use crate::text;
+use crate::failure::Done;
+use crate::{output, text};
 use sample::Roller;
-use std::ffi::OsStr;
-use std::fs::File;
 use std::io::{self, Write};
 
 const POINTS: u32 = 24;
@@ -17,8 +15,9 @@ const SIDE: u32 = 64;
 
 pub fn run(mut arguments: Arguments) -> Done {
     let roller = roller(arguments.flag("--colour"));
+    let force = arguments.flag("--force");
     let [path] = arguments.all(["OUT"])?;
-    write(&path, &roller).map_err(|error| Failure::at(text::of_os(&path), error))?;
+    output::write(&path, force, |out| roller.write(out))?;
     let mut out = io::stdout().lock();
     let planes = roller.points * roller.steps * roller.lamps;
     writeln!(
@@ -36,10 +35,4 @@ fn roller(colour: bool) -> Roller {
         one_record: colour,
         ..Roller::new(POINTS, STEPS, components, SIDE, SIDE)
     }
-}
-
-/// Writes a new file; one that is there is left alone.
-fn write(path: &OsStr, roller: &Roller) -> io::Result<()> {
-    let mut file = File::create_new(path)?;
-    file.write_all(&roller.file())
 }

@@ -10,12 +10,14 @@ use std::io::{self, Write};
 pub fn run(mut arguments: Arguments) -> Done {
     let as_json = arguments.flag("--json");
     let [path] = arguments.all(["FILE"])?;
-    let file = open::file(&path)?;
-    let sheet = Sheet::read(&file).map_err(|refusal| refused(&path, &file, refusal))?;
+    let (bytes, sheet) = open::with(&path, |file| {
+        let sheet = Sheet::read(file).map_err(|refusal| refused(&path, file, refusal))?;
+        Ok((file.len(), sheet))
+    })?;
     let mut out = io::stdout().lock();
     match as_json {
-        true => writeln!(out, "{}", told(&path, &file, &sheet))?,
-        false => print(&mut out, &path, &file, &sheet)?,
+        true => writeln!(out, "{}", told(&path, bytes, &sheet))?,
+        false => print(&mut out, &path, bytes, &sheet)?,
     }
     Ok(out.flush()?)
 }
@@ -27,15 +29,15 @@ fn refused(path: &OsStr, file: &[u8], refusal: Refusal) -> Failure {
         Some(fault) if refusal == Refusal::SHEET_LAYOUT => {
             Failure::at(place, format!("{refusal}; {fault}"))
         }
-        _ => Failure::at(place, refusal),
+        _ => Failure::refused(place, refusal),
     }
 }
 
-fn print(out: &mut impl Write, path: &OsStr, file: &[u8], sheet: &Sheet) -> io::Result<()> {
+fn print(out: &mut impl Write, path: &OsStr, bytes: usize, sheet: &Sheet) -> io::Result<()> {
     let (width, height, bits) = (sheet.width, sheet.height, sheet.bits);
     let [smallest, largest] = ends(sheet).map(|end| end.map_or("no number".into(), Number::shown));
     writeln!(out, "{}", text::of_os(path))?;
-    writeln!(out, "  bytes       {}", file.len())?;
+    writeln!(out, "  bytes       {bytes}")?;
     writeln!(
         out,
         "  plane       {width} x {height} samples of {bits} bits"
@@ -44,11 +46,13 @@ fn print(out: &mut impl Write, path: &OsStr, file: &[u8], sheet: &Sheet) -> io::
     writeln!(out, "  largest     {largest}")
 }
 
-fn told(path: &OsStr, file: &[u8], sheet: &Sheet) -> String {
+fn told(path: &OsStr, bytes: usize, sheet: &Sheet) -> String {
+    let (file, file_bytes) = json::path(path);
     let [smallest, largest] = ends(sheet).map(|end| end.map_or_else(json::null, Number::told));
     json::object([
-        ("file", json::string(&path.to_string_lossy())),
-        ("bytes", file.len().to_string()),
+        ("file", file),
+        ("file_bytes", file_bytes),
+        ("bytes", bytes.to_string()),
         ("width", sheet.width.to_string()),
         ("height", sheet.height.to_string()),
         ("bits", sheet.bits.to_string()),

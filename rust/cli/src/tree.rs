@@ -16,18 +16,18 @@ pub fn run(arguments: Arguments) -> Done {
     if !name.ends_with(b"!") {
         name.push(b'!');
     }
-    let file = open::file(&path)?;
-    let reader = open::reader(&path, &file)?;
-    let chunk = text::shown(&String::from_utf8_lossy(&name));
-    let place = || format!("{}: chunk {chunk}", text::of_os(&path));
-    let tree = reader
-        .tree(&name)
-        .map_err(|refusal| misnamed::failure(place(), refusal, &file, &[&name]))?;
-    let mut out = BufWriter::new(io::stdout().lock());
-    for entry in tree.entries() {
-        print(&mut out, entry)?;
-    }
-    Ok(out.flush()?)
+    open::with(&path, |file| {
+        let reader = open::reader(&path, file)?;
+        let place = || format!("{}: chunk {}", text::of_os(&path), text::of_bytes(&name));
+        let tree = reader
+            .tree(&name)
+            .map_err(|refusal| misnamed::failure(place(), refusal, file, &[&name]))?;
+        let mut out = BufWriter::new(io::stdout().lock());
+        for entry in tree.entries() {
+            print(&mut out, entry)?;
+        }
+        Ok(out.flush()?)
+    })
 }
 
 fn print(out: &mut impl Write, entry: Entry) -> io::Result<()> {

@@ -72,6 +72,68 @@ fn info_as_json_is_json_and_tells_the_same() {
     let color = [0.0, 255.0, 0.0].map(Json::Number);
     assert_eq!(json.get("channels").items()[1].get("color").items(), color);
     assert_eq!(json.get("absent"), &Json::Number(0.0));
+    assert_eq!(json.get("z_step"), &Json::Number(0.5));
+    assert_eq!(json.get("z_step_state"), &Json::Text("stated".into()));
+    assert_eq!(json.get("file_bytes"), &Json::Null);
+}
+
+/// The kinds of focus step, in text and in JSON.
+#[test]
+fn info_tells_the_kinds_of_focus_step_apart() {
+    let folder = Folder::new();
+    for (step, state, line) in [
+        (0.5, "stated", "0.5 micrometres"),
+        (1e-7, "smaller", "below 0.000001 micrometres, not used"),
+        (2000.0, "larger", "above 1000 micrometres, not used"),
+        (f64::NAN, "unstated", "not stated"),
+    ] {
+        let r = Roller { step, ..small() };
+        folder.write("a.nd2", &r.file());
+        let told = folder.run(&["info", "a.nd2"]).fine();
+        let line = format!("  focus step  {line}\n");
+        assert!(told.contains(&line), "{line:?} is not in {told:?}");
+        let json = parse(&folder.run(&["info", "--json", "a.nd2"]).fine()).expect("valid JSON");
+        assert_eq!(json.get("z_step_state"), &Json::Text(state.into()));
+        assert_eq!(json.get("z_step") == &Json::Null, state != "stated");
+    }
+}
+
+/// A path that is no UTF-8 is shown with the bytes that are none written out, and its bytes stand in the JSON.
+#[test]
+fn paths_are_shown_without_loss() {
+    use std::ffi::OsStr;
+    use std::os::unix::ffi::OsStrExt;
+    let folder = with_small();
+    let path = OsStr::from_bytes(b"\xFF\\\x1B.nd2");
+    std::fs::rename(folder.path().join("a.nd2"), folder.path().join(path)).unwrap();
+    let run = |words: &[&str]| {
+        let mut command = folder.command(words);
+        common::Ran::new(command.arg(path).output().unwrap())
+    };
+    let shown = "\\xff\\\\\\u{1b}.nd2";
+    let told = run(&["info"]).fine();
+    assert!(told.starts_with(&format!("{shown}\n")), "{told}");
+    let json = parse(&run(&["info", "--json"]).fine()).expect("valid JSON");
+    assert_eq!(json.get("file"), &Json::Text(shown.into()));
+    assert_eq!(json.get("file_bytes"), &Json::Text("ff5c1b2e6e6432".into()));
+    assert_eq!(run(&["check"]).fine(), format!("{shown}: 12 planes read\n"));
+    let refused = run(&["sheet"]);
+    refused.fails(1, &[&format!("nd2: {shown}: sheet layout: ")]);
+}
+
+#[test]
+fn an_index_has_several_words() {
+    let folder = with_small();
+    let words = "plane a.nd2 --scene 2 --t 0 --c 1 --z 1 -o p.raw";
+    folder.run(&words.split(' ').collect::<Vec<_>>()).fine();
+    for words in [
+        "plane a.nd2 --point 2 --time 0 --channel 1 --focus 1 --force -o q.raw",
+        "plane a.nd2 --point=2 --time=0 --lamp=1 --focus=1 --force -o q.raw",
+    ] {
+        folder.run(&words.split(' ').collect::<Vec<_>>()).fine();
+        assert_eq!(folder.read("q.raw"), folder.read("p.raw"));
+        std::fs::remove_file(folder.path().join("q.raw")).unwrap();
+    }
 }
 
 #[test]
@@ -85,11 +147,13 @@ fn json_is_valid_whatever_names_and_sizes_are() {
         parts::CALIBRATION,
         &parts::calibration(f64::INFINITY).encode(),
     );
-    let name = "\"quoted\" \\ \u{1}\u{7f}\n ü \u{1F600}";
+    let name = "\"quoted\" \\ \u{1}\u{7f}\u{9b}\n ü \u{1F600}";
     let planes = [Plane::new(name, 1), Plane::new("", 2)];
     file.add(parts::CHANNELS, &parts::channels(&planes).encode());
     folder.write("a\"b\\.nd2", &file.finish());
     let told = folder.run(&["info", "--json", "a\"b\\.nd2"]).fine();
+    let control = |letter: char| letter.is_control() && letter != '\n';
+    assert!(!told.contains(control), "{told:?}");
     let json = parse(&told).expect("valid JSON");
     assert_eq!(json.get("file"), &Json::Text("a\"b\\.nd2".into()));
     assert_eq!(json.get("pixel_size").items(), [Json::Null, Json::Null]);

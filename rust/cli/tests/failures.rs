@@ -22,26 +22,55 @@ fn help_is_no_failure() {
     for command in [
         "info", "plane", "sheet", "register", "tree", "check", "sample",
     ] {
-        let told = folder.run(&[command, "--help"]).fine();
-        assert!(
-            told.starts_with(&format!("usage: nd2 {command} ")),
-            "{told}"
-        );
+        for words in [[command, "--help"], ["help", command], ["--help", command]] {
+            let told = folder.run(&words).fine();
+            let start = format!("usage: nd2 {command} ");
+            assert!(told.starts_with(&start), "{words:?}: {told}");
+        }
     }
     assert!(folder.run(&["--version"]).fine().starts_with("nd2 "));
+    let none = folder.run(&["help", "look"]);
+    none.fails(2, &["nd2: no such command: look\ntry: nd2 help\n"]);
+    let two = folder.run(&["help", "info", "plane"]);
+    two.fails(2, &["nd2: one word too many: plane\ntry: nd2 help\n"]);
 }
 
 #[test]
-fn wrong_usage_gives_the_usage_and_status_2() {
+fn every_word_for_an_index_is_in_the_help() {
+    let folder = Folder::new();
+    let words = folder.run(&["help", "words"]).fine();
+    let plane = folder.run(&["help", "plane"]).fine();
+    for option in [
+        "--scene",
+        "--point",
+        "--t",
+        "--time",
+        "--c",
+        "--channel",
+        "--lamp",
+        "--z",
+        "--focus",
+    ] {
+        let option = format!("{option} N");
+        assert!(words.contains(&option), "{option}: {words}");
+        assert!(plane.contains(&option), "{option}: {plane}");
+    }
+}
+
+#[test]
+fn wrong_usage_is_one_line_a_hint_and_status_2() {
     let folder = with_roller();
     let cases: &[(&[&str], &str)] = &[
         (&[], "no command"),
         (&["look"], "no such command: look"),
+        (&["--look"], "no such option: --look"),
+        (&[""], "no such command: ''"),
         (&["info"], "FILE is missing"),
         (&["info", "a.nd2", "b.nd2"], "one word too many: b.nd2"),
         (&["info", "--xml", "a.nd2"], "no such option: --xml"),
         (&["tree", "a.nd2"], "CHUNK is missing"),
         (&["check"], "FILE is missing"),
+        (&["check", "--json", "a.nd2"], "no such option: --json"),
         (&["sample"], "OUT is missing"),
         (&["register"], "FILE is missing"),
         (&["sheet"], "FILE is missing"),
@@ -54,25 +83,37 @@ fn wrong_usage_gives_the_usage_and_status_2() {
         ),
         (
             &["plane", "a.nd2", "-o", "p.pgm"],
-            "--scene is missing: it is one of 2",
+            "--scene (the point) is missing: 0 to 1",
         ),
         (
             &["plane", "a.nd2", "--scene", "0", "-o", "p.pgm"],
-            "--z is missing: it is one of 3",
+            "--z (the focus step) is missing: 0 to 2",
         ),
         (
             &["plane", "a.nd2", "--z", "one", "-o", "p.pgm"],
             "--z needs a whole number, not one",
         ),
         (
+            &["plane", "a.nd2", "--focus", "one", "-o", "p.pgm"],
+            "--focus needs a whole number, not one",
+        ),
+        (
             &["plane", "a.nd2", "--z=1", "--z=2", "-o", "p.pgm"],
             "--z is there twice",
         ),
+        (
+            &["plane", "a.nd2", "--z=1", "--focus=1", "-o", "p.pgm"],
+            "--z and --focus are one option",
+        ),
     ];
     for (words, what) in cases {
-        folder
-            .run(words)
-            .fails(2, &[&format!("nd2: {what}\n"), "usage: nd2 "]);
+        let unknown = ["look", "--look", ""];
+        let known = words.first().filter(|word| !unknown.contains(word));
+        let command = known.map_or(String::new(), |word| format!(" {word}"));
+        let ran = folder.run(words);
+        ran.fails(2, &[]);
+        let told = format!("nd2: {what}\ntry: nd2 help{command}\n");
+        assert_eq!((ran.err, ran.out), (told, String::new()));
     }
     assert!(!folder.has("p.pgm"));
 }
@@ -103,12 +144,14 @@ fn refusals_say_what_is_wrong_where_and_the_number() {
     let tree = folder.run(&["tree", "a.nd2", "Gone"]);
     tree.fails(1, &["nd2: a.nd2: chunk Gone!: missing", "(11)"]);
     let words = ["plane", "a.nd2", "--scene", "2", "--z", "0", "-o", "p.pgm"];
-    let parts = [
-        "nd2: a.nd2: plane at scene 2, t 0, c 0, z 0: index",
-        "(21)",
-        "2 scenes",
-    ];
-    folder.run(&words).fails(1, &parts);
+    let place = "nd2: a.nd2: plane at scene 2, t 0, c 0, z 0: index";
+    folder
+        .run(&words)
+        .fails(1, &[place, "(21); scene is 0 to 1\n"]);
+    let words = "plane a.nd2 --point 0 --time 1 --lamp 1 --focus 3 -o p.pgm";
+    let words: Vec<&str> = words.split(' ').collect();
+    let over = "(21); t is 0, c is 0, z is 0 to 2\n";
+    folder.run(&words).fails(1, &[over]);
     assert!(!folder.has("p.pgm"));
 }
 
@@ -166,7 +209,7 @@ fn a_frame_of_another_name_is_told_with_both_names() {
     }
     let ran = folder.run(&["check", "a.nd2"]);
     ran.fails(1, &[&what]);
-    assert_eq!(ran.out, "a.nd2: of 11 planes 2 read, 9 refused\n");
+    assert_eq!(ran.out, "a.nd2: of 11 planes 2 read, 1 refused, 8 absent\n");
     let words = ["plane", "a.nd2", "--t", "10", "-o", "p.raw"];
     folder.run(&words).fine();
 }
@@ -232,81 +275,85 @@ fn check_tells_each_refusal_and_goes_on() {
     folder.write("b.nd2", &bytes);
     folder.write("text.nd2", b"no");
     let ran = folder.run(&["check", "b.nd2", "text.nd2", "a.nd2"]);
-    let frame = "nd2: b.nd2: plane at scene 1, t 0, c 0, z 1: no frame: the map has no entry for the frame (23)";
+    let frame =
+        "nd2: b.nd2: frame at scene 1, t 0, z 1: no frame: the map has no entry for the frame (23)";
     ran.fails(1, &[frame, "nd2: text.nd2: foreign"]);
     assert_eq!(
         ran.out,
-        "b.nd2: of 6 planes 5 read, 1 refused\na.nd2: 6 planes read\n"
+        "b.nd2: of 6 planes 5 read, 1 absent\na.nd2: 6 planes read\n"
     );
 }
 
+/// With one stream for both, what is wrong stands before the total.
 #[test]
-fn check_ends_where_the_frames_are_countless() {
+fn check_tells_all_before_the_total() {
+    let folder = Folder::new();
+    let mut bytes = roller(1, 30, 1, 2, 2);
+    for n in 0..15 {
+        // frames 0 to 14 are absent, and of 15 to 29 the chunk has another name
+        let (gone, misnamed) = (
+            format!("ImageDataSeq|{n}!"),
+            format!("ImageDataSeq|{}!", n + 15),
+        );
+        let part = |bytes: &[u8], name: &str, last: bool| {
+            let is = |part: &[u8]| part == name.as_bytes();
+            let mut windows = bytes.windows(name.len());
+            if last {
+                windows.rposition(is)
+            } else {
+                windows.position(is)
+            }
+            .unwrap()
+        };
+        let at = part(&bytes, &gone, true);
+        bytes[at] = b'X';
+        let at = part(&bytes, &misnamed, false);
+        bytes[at] = b'X';
+    }
+    folder.write("a.nd2", &bytes);
+    let words = ["-c", "\"$0\" check a.nd2 2>&1", env!("CARGO_BIN_EXE_nd2")];
+    let ran = std::process::Command::new("sh")
+        .args(words)
+        .current_dir(folder.path())
+        .output();
+    let ran = Ran::new(ran.unwrap());
+    let lines: Vec<&str> = ran.out.lines().collect();
+    assert_eq!((ran.status, lines.len()), (1, 23), "{}", ran.out);
+    assert!(lines[..10].iter().all(|line| line.ends_with("(23)")));
+    assert_eq!(lines[10], "nd2: a.nd2: 5 more frames absent");
+    assert!(lines[11..21].iter().all(|line| line.contains("(29)")));
+    assert_eq!(lines[21], "nd2: a.nd2: 5 more planes refused");
+    assert_eq!(
+        lines[22],
+        "a.nd2: of 30 planes 0 read, 15 refused, 15 absent"
+    );
+}
+
+/// Of 1200 frames each leads to a chunk of another name.
+#[test]
+fn check_goes_on_after_1000_refusals() {
     use sample::{parts, Nd2};
     let folder = Folder::new();
-    let loops =
-        [parts::TIME, parts::POINTS, parts::FOCUS].map(|kind| (kind, parts::counted(1_000_000)));
     let mut file = Nd2::new();
-    file.add(
-        parts::ATTRIBUTES,
-        &parts::attributes(parts::Sizes::packed(1, 1, 1, 8)).encode(),
-    );
+    let sizes = parts::Sizes::packed(1, 1, 1, 8);
+    file.add(parts::ATTRIBUTES, &parts::attributes(sizes).encode());
+    let loops = [(parts::TIME, parts::counted(1201))];
     file.add(parts::EXPERIMENT, &parts::experiment(&loops).encode());
+    for n in 0..1200 {
+        file.entries.push(sample::file::MapEntry {
+            name: parts::frame_name(n).into_bytes(),
+            offset: 0,
+            size: 0,
+        });
+    }
     folder.write("a.nd2", &file.finish());
-    let ran = folder.run(&["check", "a.nd2"]);
-    ran.fails(1, &["(23)", "990 more planes refused"]);
-    assert!(
-        ran.out
-            .contains("0 read, 1000 refused, the others were not tried"),
-        "{}",
-        ran.out
+    folder.write("b.nd2", &roller(1, 1, 1, 2, 2));
+    let ran = folder.run(&["check", "a.nd2", "b.nd2"]);
+    ran.fails(1, &["(29)", "nd2: a.nd2: 990 more planes refused\n"]);
+    assert_eq!(
+        ran.out,
+        "a.nd2: of 1201 planes 0 read, 1000 refused, 1 absent, the others were not tried\nb.nd2: 1 plane read\n"
     );
-    let info = folder.run(&["info", "a.nd2"]).fine();
-    assert!(
-        info.contains("1000000000000000000, too many to look up"),
-        "{info}"
-    );
-    folder
-        .run(&["register", "a.nd2"])
-        .fails(1, &["nd2: a.nd2: register: buffer", "(25)"]);
-}
-
-#[test]
-fn files_that_are_there_are_not_lost() {
-    let folder = with_roller();
-    folder.run(&["sample", "a.nd2"]).fails(1, &["nd2: a.nd2: "]);
-    assert_eq!(folder.read("a.nd2"), roller(2, 3, 1, 2, 2));
-    folder.write("a.raw", &roller(1, 1, 1, 2, 2));
-    folder
-        .run(&["plane", "a.raw", "-o", "a.raw"])
-        .fails(1, &["is the file that is read"]);
-    assert_eq!(folder.read("a.raw"), roller(1, 1, 1, 2, 2));
-    folder.write("a.tif", &roller(1, 1, 1, 2, 2));
-    folder
-        .run(&["plane", "a.tif", "-o", "a.tif"])
-        .fails(1, &["is the file that is read"]);
-    assert_eq!(folder.read("a.tif"), roller(1, 1, 1, 2, 2));
-}
-
-#[test]
-fn an_output_that_cannot_be_written_is_told() {
-    let folder = with_roller();
-    let words = [
-        "plane",
-        "a.nd2",
-        "--scene",
-        "0",
-        "--z",
-        "0",
-        "-o",
-        "no/such/p.pgm",
-    ];
-    folder
-        .run(&words)
-        .fails(1, &["nd2: no/such/p.pgm: No such file"]);
-    folder
-        .run(&["sample", "no/such/s.nd2"])
-        .fails(1, &["nd2: no/such/s.nd2: "]);
 }
 
 #[test]

@@ -33,6 +33,9 @@ use std::path::{Path, PathBuf};
 use std::process::ExitCode;
 use tally::Tally;
 
+const USAGE: &str =
+    "usage: compare ORIGINAL_FOLDER [--files N] [--seed S] [--corners] [--sizes N] [--unchanged]";
+
 struct Options {
     original: PathBuf,
     files: u64,
@@ -43,7 +46,7 @@ struct Options {
 }
 
 fn options() -> Option<Options> {
-    let mut arguments = std::env::args().skip(1);
+    let mut arguments = std::env::args_os().skip(1);
     let mut options = Options {
         original: PathBuf::from(arguments.next()?),
         files: 20_000,
@@ -53,8 +56,8 @@ fn options() -> Option<Options> {
         unchanged: false,
     };
     while let Some(argument) = arguments.next() {
-        let mut value = || arguments.next()?.parse().ok();
-        match argument.as_str() {
+        let mut value = || arguments.next()?.to_str()?.parse().ok();
+        match argument.to_str()? {
             "--files" => options.files = value()?,
             "--seed" => options.seed = value()?,
             "--corners" => options.corners = true,
@@ -95,8 +98,8 @@ fn compared(options: &Options, folder: &Path) -> io::Result<Tally> {
     for (label, file) in sample::misnamed::all() {
         run.case(&Case::corner(&label, file))?;
     }
-    for seed in options.seed..options.seed + options.files {
-        run.case(&Case::seeded(seed))?;
+    for i in 0..options.files {
+        run.case(&Case::seeded(options.seed.wrapping_add(i)))?;
     }
     if let Some(random) = options.sizes {
         sizes(&mut run, options.seed, random)?;
@@ -106,9 +109,7 @@ fn compared(options: &Options, folder: &Path) -> io::Result<Tally> {
 
 fn main() -> ExitCode {
     let Some(options) = options() else {
-        eprintln!(
-            "compare ORIGINAL_FOLDER [--files N] [--seed S] [--corners] [--sizes N] [--unchanged]"
-        );
+        eprintln!("{USAGE}");
         return ExitCode::from(2);
     };
     let folder = std::env::temp_dir().join(format!("compare-original-{}", std::process::id()));
@@ -120,7 +121,7 @@ fn main() -> ExitCode {
             ExitCode::from((tally.unlisted > 0) as u8)
         }
         Err(error) => {
-            eprintln!("{error}");
+            eprintln!("compare: {error}");
             ExitCode::from(2)
         }
     }

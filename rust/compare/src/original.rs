@@ -59,9 +59,20 @@ pub struct Question<'a> {
     pub file: &'a [u8],
 }
 
+/// What went wrong with a file, with its name.
+fn of_file(path: &Path) -> impl FnOnce(io::Error) -> io::Error + '_ {
+    move |error| io::Error::new(error.kind(), format!("{}: {error}", path.display()))
+}
+
+/// The text of one of the original's files.
+fn source(original: &Path, name: &str) -> io::Result<String> {
+    let path = original.join(name);
+    fs::read_to_string(&path).map_err(of_file(&path))
+}
+
 /// The reader's text: that of the reference, or the original's own.
 fn reader(original: &Path, unchanged: bool) -> io::Result<String> {
-    let text = fs::read_to_string(original.join(READER))?;
+    let text = source(original, READER)?;
     if unchanged {
         println!("the original, unchanged");
         return Ok(text);
@@ -79,10 +90,10 @@ pub fn build(original: &Path, folder: &Path, unchanged: bool) -> io::Result<Path
     for (name, text) in DRIVER {
         fs::write(folder.join(name), text)?;
     }
-    for name in UNCHANGED {
-        fs::copy(original.join(name), folder.join(name))?;
-    }
     let mut text = reader(original, unchanged)?;
+    for name in UNCHANGED {
+        fs::write(folder.join(name), source(original, name)?)?;
+    }
     text.push_str("\n#[path = \"access.rs\"]\npub mod access;\n");
     fs::write(folder.join(READER), text)?;
     let program = folder.join("original");
@@ -93,7 +104,8 @@ pub fn build(original: &Path, folder: &Path, unchanged: bool) -> io::Result<Path
         .arg("-o")
         .arg(&program)
         .arg(folder.join("main.rs"))
-        .status()?;
+        .status()
+        .map_err(of_file(Path::new("rustc")))?;
     if !status.success() {
         return Err(io::Error::other("the original does not compile"));
     }

@@ -1,8 +1,9 @@
 //! Reads Nikon ND2 files: uncompressed trees and whole uncompressed planes.
 //!
-//! Every answer comes from the proved reader, through its C interface (`include/nd2.h`); this crate lends it the buffers
-//! and hands out what it wrote as Rust values. Nothing here panics, whatever the file's bytes are: a file that cannot be
-//! read gives a [`Refusal`], which has a number, a trade word and a sentence.
+//! Every answer comes from the proved reader, through its C interface (`include/nd2.h`), but for the [`Register`] of more
+//! than 2,000,000 frames; this crate lends it the buffers and hands out what it wrote as Rust values. Nothing here panics,
+//! whatever the file's bytes are: a file that cannot be read gives a [`Refusal`], which has a number, a trade word and a
+//! sentence.
 //!
 //! ```
 //! # fn main() -> Result<(), Box<dyn std::error::Error>> {
@@ -23,14 +24,20 @@
 //! # }
 //! ```
 //!
-//! The file need not be on a disk: [`Reader::open`] takes any bytes. [`Reader::sheet`] gives a plane as a TIFF sheet, and
-//! [`Sheet::read`] reads one. [`Reader::picometres`] gives the size of a pixel as a whole number.
+//! The file need not be on a disk: [`Reader::open`] takes any bytes. [`File::open_path`] reads a file into memory;
+//! [`File::map_path`] maps one, and is unsafe, since nobody may change the file then. [`Reader::sheet`] gives a plane as a
+//! TIFF sheet, and [`Sheet::read`] reads one. [`Reader::picometres`] gives the size of a pixel as a whole number.
 
 #![warn(missing_docs)]
 
+// the lengths of the C interface, of files and of mappings are taken to be of 64 bits
+const _: () = assert!(usize::BITS == 64, "nd2 is for machines of 64 bits");
+
 mod bytes;
 mod channel;
+mod entries;
 mod file;
+mod mapping;
 pub mod raw;
 mod reader;
 mod refusal;
@@ -44,7 +51,7 @@ pub use channel::Channel;
 pub use file::File;
 pub use reader::Reader;
 pub use refusal::Refusal;
-pub use register::Frame;
+pub use register::{Frame, Frames, Register};
 pub use sheet::Sheet;
 pub use summary::{Axis, Loop, State, Summary, ZStep};
 pub use tree::{Entry, Tree, Value};

@@ -1,18 +1,20 @@
 //! The calls, over the bytes of one file.
 
 use crate::channel::Channel;
-use crate::raw::{self, CHANNEL_BYTES, ENTRY_BYTES, FRAME_BYTES, SHEET_HEAD_BYTES, SUMMARY_BYTES};
+use crate::raw::{self, CHANNEL_BYTES, ENTRY_BYTES, SUMMARY_BYTES};
 use crate::refusal::Refusal;
-use crate::register::Frame;
+use crate::register::Register;
 use crate::summary::Summary;
 use crate::tree::Tree;
 use std::fmt;
 
 /// The bytes of the first table that is lent, 256 entries; it doubles while it is too short.
 const FIRST_BYTES: usize = 256 * ENTRY_BYTES;
+/// For an answer of more bytes memory is made only after the call has nothing else against it.
+const SMALL_BYTES: u64 = 1 << 20;
 
-/// An opened file. It borrows the file's bytes, which may be mapped from a disk ([`File`](crate::File)) or stand
-/// anywhere in memory, and may be used from several threads.
+/// An opened file. It borrows the file's bytes, which may come from a disk ([`File`](crate::File)) or stand anywhere in
+/// memory, and may be used from several threads.
 #[derive(Clone)]
 pub struct Reader<'a> {
     file: &'a [u8],
@@ -64,8 +66,8 @@ impl<'a> Reader<'a> {
     /// # Errors
     ///
     /// 21 for an index that is not below its count, 22 for a plane that is too large, 23 where the file does not have the
-    /// frame, 4 and 24 where the frame cannot be read, and 29 where the map leads to a chunk of another name, as to the frame
-    /// beside it.
+    /// frame, 4 and 24 where the frame cannot be read, 29 where the map leads to a chunk of another name, as to the frame
+    /// beside it, and 25 where there is no memory for the samples, which are made room for last.
     ///
     /// ```
     /// let bytes = sample::roller(24, 11, 2, 4, 4);
@@ -75,19 +77,8 @@ impl<'a> Reader<'a> {
     /// # Ok::<(), nd2::Refusal>(())
     /// ```
     pub fn plane(&self, scene: u64, t: u64, c: u64, z: u64) -> Result<Vec<u8>, Refusal> {
-        let mut samples = vec![0; self.plane_room()];
-        self.plane_into(scene, t, c, z, &mut samples)?;
-        Ok(samples)
-    }
-
-    /// The bytes that a plane needs, or 0 where no plane of that size lies in the file. Such a plane is refused before
-    /// its buffer is looked at.
-    fn plane_room(&self) -> usize {
-        let bytes = usize::try_from(self.summary.plane_bytes());
-        bytes
-            .ok()
-            .filter(|&bytes| bytes <= self.file.len())
-            .unwrap_or(0)
+        let plane = |samples: &mut [u8]| self.plane_into(scene, t, c, z, samples);
+        filled(self.summary.plane_bytes(), plane)
     }
 
     /// The same into a buffer of at least [`Summary::plane_bytes`] bytes; later bytes keep what they are, and on a
@@ -124,17 +115,8 @@ impl<'a> Reader<'a> {
     /// # Ok::<(), nd2::Refusal>(())
     /// ```
     pub fn sheet(&self, scene: u64, t: u64, c: u64, z: u64) -> Result<Vec<u8>, Refusal> {
-        let mut sheet = vec![0; self.sheet_room()];
-        self.sheet_into(scene, t, c, z, &mut sheet)?;
-        Ok(sheet)
-    }
-
-    /// The bytes that a sheet needs, or 0 where it is refused before its buffer is looked at.
-    fn sheet_room(&self) -> usize {
-        match (self.plane_room(), u32::try_from(self.summary.sheet_bytes())) {
-            (0, _) | (_, Err(_)) => 0,
-            (room, Ok(_)) => SHEET_HEAD_BYTES + room,
-        }
+        let written = |sheet: &mut [u8]| self.sheet_into(scene, t, c, z, sheet);
+        filled(self.summary.sheet_bytes(), written)
     }
 
     /// The same into a buffer of at least [`Summary::sheet_bytes`] bytes; later bytes keep what they are, and on a
@@ -160,7 +142,7 @@ impl<'a> Reader<'a> {
     ///
     /// # Errors
     ///
-    /// 18 where there is no memory for the entries of the tree.
+    /// 18 where there is no memory for the entries of the tree, and 19 where there is none for the channels.
     ///
     /// ```
     /// let camera = sample::Roller { one_record: true, ..sample::Roller::new(2, 1, 3, 4, 4) };
@@ -204,22 +186,26 @@ impl<'a> Reader<'a> {
         Ok(picometres)
     }
 
-    /// Every frame that the loops make, in order of its number, with its place in the file where the map has it.
+    /// Every frame that the loops make, in order of its number, with its place in the file where the map has it. At most
+    /// 48 MB are kept, however many frames a file says that it has; [`Register`] says of which part that is not the proved
+    /// call's answer.
     ///
     /// # Errors
     ///
-    /// 25 where there is no memory for so many frames ([`Summary::frames`]).
-    pub fn register(&self) -> Result<Vec<Frame>, Refusal> {
-        let bytes = records(self.summary.frames(), FRAME_BYTES);
-        let mut buffer = bytes.and_then(zeroed).ok_or(Refusal::BUFFER)?;
-        self.register_into(&mut buffer)?;
-        let mut frames = Vec::new();
-        let count = buffer.len() / FRAME_BYTES;
-        frames
-            .try_reserve_exact(count)
-            .map_err(|_| Refusal::BUFFER)?;
-        frames.extend(buffer.chunks_exact(FRAME_BYTES).map(Frame::read));
-        Ok(frames)
+    /// 25 where there is no memory for it.
+    ///
+    /// ```
+    /// let bytes = sample::roller(24, 11, 2, 4, 4);
+    /// let reader = nd2::Reader::open(&bytes)?;
+    /// let register = reader.register()?;
+    /// assert_eq!((register.len(), register.present()), (264, 264));
+    /// for frame in &register {
+    ///     println!("point {}, step {} at {:?}", frame.scene, frame.z, frame.offset);
+    /// }
+    /// # Ok::<(), nd2::Refusal>(())
+    /// ```
+    pub fn register(&self) -> Result<Register<'a>, Refusal> {
+        Register::new(self.file, &self.laid, &self.summary)
     }
 
     /// The register as the core writes it, 24 bytes a frame, into a buffer: scene, t, z and state as u32 (0 in the map, 1
@@ -265,8 +251,23 @@ impl fmt::Debug for Reader<'_> {
 }
 
 /// The bytes of so many records.
-fn records(count: u64, bytes: usize) -> Option<usize> {
+pub(crate) fn records(count: u64, bytes: usize) -> Option<usize> {
     usize::try_from(count).ok()?.checked_mul(bytes)
+}
+
+/// What a call writes into so many bytes. All that it refuses for another reason than their number is refused before there
+/// is memory for them; 25 where there is none.
+fn filled(bytes: u64, call: impl Fn(&mut [u8]) -> Result<(), Refusal>) -> Result<Vec<u8>, Refusal> {
+    if bytes > SMALL_BYTES {
+        match call(&mut []) {
+            Ok(()) | Err(Refusal::BUFFER) => {}
+            Err(refusal) => return Err(refusal),
+        }
+    }
+    let bytes = usize::try_from(bytes).ok().and_then(zeroed);
+    let mut bytes = bytes.ok_or(Refusal::BUFFER)?;
+    call(&mut bytes)?;
+    Ok(bytes)
 }
 
 /// So many bytes of zero, if there is memory for them.

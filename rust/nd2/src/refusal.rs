@@ -13,7 +13,7 @@ use std::fmt;
 /// assert_eq!(refusal.number(), 1);
 /// assert_eq!(refusal.to_string(), "foreign: not an ND2 file (1)");
 /// ```
-#[derive(Clone, Copy, Debug, PartialEq, Eq, Hash, PartialOrd, Ord)]
+#[derive(Clone, Copy, PartialEq, Eq, Hash, PartialOrd, Ord)]
 pub struct Refusal(u32);
 
 /// Names for the numbers, and the table of all of them.
@@ -114,6 +114,15 @@ impl fmt::Display for Refusal {
     }
 }
 
+impl fmt::Debug for Refusal {
+    fn fmt(&self, f: &mut fmt::Formatter<'_>) -> fmt::Result {
+        let mut out = f.debug_struct("Refusal");
+        out.field("number", &self.0);
+        out.field("word", &self.word());
+        out.field("sentence", &self.sentence()).finish()
+    }
+}
+
 impl Error for Refusal {}
 
 #[cfg(test)]
@@ -135,6 +144,14 @@ mod tests {
         assert_eq!(Refusal::SHEET_LAYOUT.word(), "sheet layout");
         assert_eq!(Refusal::SIZE_RANGE.word(), "size range");
         assert_eq!(Refusal::CHUNK_NAME.word(), "chunk name");
+    }
+
+    #[test]
+    fn debug_has_the_number_the_word_and_the_sentence() {
+        assert_eq!(
+            format!("{:?}", Refusal::NO_FRAME),
+            "Refusal { number: 23, word: \"no frame\", sentence: \"the map has no entry for the frame\" }"
+        );
     }
 
     #[test]

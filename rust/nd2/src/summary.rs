@@ -152,7 +152,19 @@ impl Summary {
         counts.fold(1, u64::saturating_mul)
     }
 
-    /// How many planes: one for each component of each frame.
+    /// The index of an axis in the frame of a number; 0 where no loop runs over it.
+    pub(crate) fn index(&self, axis: Axis, number: u64) -> u64 {
+        let mut inner = 1u64;
+        for one in self.loops.iter().rev() {
+            if one.axis == axis {
+                return number / inner.max(1) % one.count.max(1);
+            }
+            inner = inner.saturating_mul(one.count);
+        }
+        0
+    }
+
+    /// How many planes: one for each component of each frame; 2^64 - 1 where they are more.
     pub fn planes(&self) -> u64 {
         self.frames().saturating_mul(self.components)
     }

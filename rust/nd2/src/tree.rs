@@ -75,11 +75,11 @@ impl<'a> Tree<'a> {
         (0..self.len()).map(|index| Entry { tree: self, index })
     }
 
-    /// The entry at a path of names from the outermost level on. Of several with one name it is the last.
+    /// The entry at a path of names from the outermost level on. Of several that have one name in one level it is the last,
+    /// since a name that comes again takes the last value. Unnamed entries are not found by a name.
     pub fn find(&self, path: &[&str]) -> Option<Entry<'_>> {
         let (first, inner) = path.split_first()?;
-        let mut outermost = self.entries().filter(|entry| entry.parent().is_none());
-        let start = outermost.find(|entry| entry.name() == *first)?;
+        let start = last_named(self.entries().filter(|entry| entry.level() == 0), first)?;
         inner
             .iter()
             .try_fold(start, |entry, name| entry.child(name))
@@ -162,10 +162,17 @@ impl<'t> Entry<'t> {
         below.filter(move |entry| entry.level() == level)
     }
 
-    /// The last of its children that has a name.
+    /// The child of a name: the last of several, since a name that comes again takes the last value. Unnamed children are
+    /// not found by a name.
     pub fn child(&self, name: &str) -> Option<Entry<'t>> {
-        self.children().filter(|entry| entry.name() == name).last()
+        last_named(self.children(), name)
     }
+}
+
+/// The last entry that has a name.
+fn last_named<'t>(entries: impl Iterator<Item = Entry<'t>>, name: &str) -> Option<Entry<'t>> {
+    let named = entries.filter(|entry| !name.is_empty() && entry.name() == name);
+    named.last()
 }
 
 impl fmt::Debug for Tree<'_> {
@@ -180,5 +187,56 @@ impl fmt::Debug for Entry<'_> {
         out.field("depth", &self.depth());
         out.field("name", &self.name());
         out.field("value", &self.value()).finish()
+    }
+}
+
+#[cfg(test)]
+mod tests {
+    use super::*;
+
+    /// A tree of numbers (type 3): the place of each one's level plus one, its name and its value, a letter each.
+    fn tree<'a>(file: &'a mut Vec<u8>, records: &[(u64, &str, u8)]) -> Tree<'a> {
+        let mut table = Vec::new();
+        for (parent, name, value) in records {
+            let start = file.len() as u64;
+            file.extend(name.encode_utf16().flat_map(u16::to_le_bytes));
+            let units = name.len() as u64;
+            file.extend([*value, 0, 0, 0]);
+            for word in [3, start, units, start + 2 * units, 4, *parent] {
+                table.extend_from_slice(&word.to_le_bytes());
+            }
+        }
+        Tree::new(file, table)
+    }
+
+    fn found(tree: &Tree, path: &[&str]) -> Option<Value<'static>> {
+        tree.find(path)
+            .map(|entry| Value::U32(u32_at(entry.bytes(), 0)))
+    }
+
+    #[test]
+    fn the_last_of_a_name_is_found_at_every_level() {
+        let mut file = Vec::new();
+        let records = [
+            (0, "a", 1),
+            (1, "b", 2),
+            (1, "b", 3),
+            (0, "a", 4),
+            (4, "b", 5),
+        ];
+        let tree = tree(&mut file, &records);
+        assert_eq!(found(&tree, &["a"]), Some(Value::U32(4)));
+        assert_eq!(found(&tree, &["a", "b"]), Some(Value::U32(5)));
+        let first = tree.entry(0).and_then(|entry| entry.child("b"));
+        assert_eq!(first.map(|entry| entry.value()), Some(Value::U32(3)));
+    }
+
+    #[test]
+    fn what_has_no_name_is_not_found_by_one() {
+        let mut file = Vec::new();
+        let tree = tree(&mut file, &[(0, "", 1), (0, "a", 2), (2, "", 3)]);
+        assert_eq!(found(&tree, &[""]), None);
+        assert_eq!(found(&tree, &["a", ""]), None);
+        assert_eq!(found(&tree, &["a"]), Some(Value::U32(2)));
     }
 }

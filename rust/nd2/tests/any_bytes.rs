@@ -1,6 +1,6 @@
 //! Whatever the bytes are, there is an answer and no panic.
 
-use nd2::raw::{self, SHEET_HEAD_BYTES, SUMMARY_BYTES};
+use nd2::raw::{self, FRAME_BYTES, SHEET_HEAD_BYTES, SUMMARY_BYTES};
 use nd2::{Reader, Refusal, Sheet, State};
 use sample::{random, roller, Rng};
 
@@ -21,10 +21,9 @@ fn asked(bytes: &[u8]) -> Option<Refusal> {
         }
         sheet(&reader, [scene, t, c, z]);
     }
-    if summary.frames() < 10_000 {
-        let frames = reader.register().unwrap();
-        assert_eq!(frames.len() as u64, summary.frames());
-    }
+    let register = reader.register().unwrap();
+    assert_eq!(register.len(), summary.frames());
+    assert_eq!(register.iter_present().count() as u64, register.present());
     let channels = reader.channels().unwrap();
     assert_eq!(channels.len() as u64, summary.components);
     picometres(&reader);
@@ -85,20 +84,87 @@ fn hardly_any_bytes() {
     assert_eq!(asked(&[0, 0, 0, 0x0C]), Some(Refusal::LEGACY));
 }
 
-#[test]
-fn more_frames_than_there_is_memory_for() {
+/// A file of loops with these counts, and with these frames.
+fn looped(counts: [u32; 3], frames: &[u64]) -> Vec<u8> {
     use sample::{parts, Nd2};
     let sizes = parts::Sizes::packed(1, 1, 1, 8);
-    let loops =
-        [parts::TIME, parts::POINTS, parts::FOCUS].map(|kind| (kind, parts::counted(1_000_000)));
+    let kinds = [parts::TIME, parts::POINTS, parts::FOCUS];
+    let loops = [0, 1, 2].map(|i| (kinds[i], parts::counted(counts[i])));
     let mut file = Nd2::new();
     file.add(parts::ATTRIBUTES, &parts::attributes(sizes).encode());
     file.add(parts::EXPERIMENT, &parts::experiment(&loops).encode());
-    let bytes = file.finish();
+    for &n in frames {
+        file.add(&parts::frame_name(n), &parts::frame(&[n as u8]));
+    }
+    file.finish()
+}
+
+#[test]
+fn more_frames_than_there_is_memory_for() {
+    const ALL: u64 = 1_000_000_000_000_000_000;
+    let bytes = looped([1_000_000; 3], &[ALL - 1, ALL, 7]);
     let reader = Reader::open(&bytes).unwrap();
-    assert_eq!(reader.summary().frames(), 1_000_000_000_000_000_000);
-    assert_eq!(reader.register(), Err(Refusal::BUFFER));
+    assert_eq!(reader.summary().frames(), ALL);
+    let register = reader.register().unwrap();
+    let counts = (register.len(), register.present(), register.absent());
+    assert_eq!(counts, (ALL, 2, ALL - 2));
+    let numbers: Vec<u64> = register.iter_present().map(|frame| frame.number).collect();
+    assert_eq!(numbers, [7, ALL - 1]);
+    let last = register.get(ALL - 1).unwrap();
+    assert_eq!((last.scene, last.t, last.z), (999_999, 999_999, 999_999));
+    assert_eq!(reader.plane(999_999, 999_999, 0, 999_999), Ok(vec![255]));
+    let first = register.iter().take(9).map(|frame| frame.is_present());
+    assert_eq!(first.filter(|&present| present).count(), 1);
+    assert_eq!(register.get(ALL), None);
+    assert_eq!(reader.register_into(&mut [0; 48]), Err(Refusal::BUFFER));
     assert_eq!(reader.plane(999_999, 0, 0, 7), Err(Refusal::NO_FRAME));
+}
+
+/// As many frames as the proved call is asked for at once, and one more row of them.
+#[test]
+fn the_proved_register_ends_where_the_other_begins() {
+    let present = [0, 1_999_999, 2_000_000, 2_000_999];
+    for (times, count) in [(2000, 2), (2001, 4)] {
+        let bytes = looped([times, 1000, 1], &present);
+        let register = Reader::open(&bytes).unwrap();
+        let register = register.register().unwrap();
+        assert_eq!(register.len(), u64::from(times) * 1000);
+        let frames: Vec<_> = register.iter_present().collect();
+        assert_eq!((frames.len(), register.present()), (count, count as u64));
+        for frame in frames {
+            let n = frame.number;
+            assert_eq!(frame, register.get(n).unwrap());
+            assert_eq!(
+                (u64::from(frame.t), u64::from(frame.scene)),
+                (n / 1000, n % 1000)
+            );
+            let chunk = frame.offset.unwrap() as usize + 16;
+            assert!(bytes[chunk..].starts_with(format!("ImageDataSeq|{n}!").as_bytes()));
+        }
+    }
+}
+
+/// Of more frames than are asked of the proved call at once, every one is as that call has it in a buffer for all of them.
+#[test]
+fn a_large_register_is_the_proved_one() {
+    let rng = &mut Rng::new(3);
+    let present: Vec<u64> = (0..3000).map(|_| rng.below(2_100_010)).collect();
+    let bytes = looped([30, 7000, 10], &present);
+    let reader = Reader::open(&bytes).unwrap();
+    let mut records = vec![0xA5; 2_100_000 * FRAME_BYTES];
+    reader.register_into(&mut records).unwrap();
+    let register = reader.register().unwrap();
+    assert_eq!(register.len(), 2_100_000);
+    assert!(register.present() > 2900 && register.present() <= 3000);
+    for (frame, record) in register.iter().zip(records.chunks_exact(FRAME_BYTES)) {
+        let mut told = Vec::new();
+        let state = u32::from(!frame.is_present());
+        for word in [frame.scene, frame.t, frame.z, state] {
+            told.extend_from_slice(&word.to_le_bytes());
+        }
+        told.extend_from_slice(&frame.offset.unwrap_or(0).to_le_bytes());
+        assert!(told == record, "frame {}", frame.number);
+    }
 }
 
 #[test]

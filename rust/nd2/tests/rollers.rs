@@ -154,12 +154,15 @@ fn plane_records_cover_components_in_turn() {
 #[test]
 fn the_register_has_every_frame_in_order() {
     let bytes = small().file();
-    let frames = Reader::open(&bytes).unwrap().register().unwrap();
+    let register = Reader::open(&bytes).unwrap().register().unwrap();
+    let frames: Vec<_> = register.iter().collect();
     let places: Vec<(u32, u32)> = frames.iter().map(|f| (f.z, f.scene)).collect();
     assert_eq!(places, [(0, 0), (0, 1), (0, 2), (1, 0), (1, 1), (1, 2)]);
     assert!(frames.iter().all(|f| f.is_present() && f.t == 0));
     let offsets: Vec<Option<u64>> = frames.iter().map(|f| f.offset).collect();
     assert!(offsets.windows(2).all(|two| two[0] < two[1]));
+    let numbers: Vec<u64> = register.iter_present().map(|f| f.number).collect();
+    assert_eq!(numbers, [0, 1, 2, 3, 4, 5]);
 }
 
 #[test]

@@ -106,7 +106,8 @@ impl Plan {
     }
 }
 
-/// "48 × (tree bytes ÷ 2, rounded down) bytes always suffice": for the largest of the trees that are asked for.
+/// The bytes of a table that is enough for each of the trees that are asked for: a record has two bytes at least, so
+/// that no tree needs more entries than half of its bytes (document 01, Trees).
 fn sufficient(file: &[u8]) -> Result<usize, u32> {
     let map = Map::read(part(file, map::place(file)?).unwrap_or(&[]))?;
     let chunks = TREES

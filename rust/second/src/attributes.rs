@@ -1,4 +1,4 @@
-//! "Attributes": the sizes of a frame and their rules.
+//! Document 01, Attributes: the sizes of a frame, and what they have to be.
 
 use crate::numbers::{signed_field, unsigned_field};
 use crate::refusal::{BITS, COMPRESSION, FRAME_SHAPE, MISSING};
@@ -25,7 +25,7 @@ impl Attributes {
         self.bits / 8
     }
 
-    /// "The plane product width × height × sample bytes"; `None` past 2^128, which is past 2^64 − 1 as well.
+    /// The bytes of a plane, one component of a frame; `None` from 2^128 on, which 64 bits cannot count either.
     pub fn plane_bytes(&self) -> Option<u128> {
         let samples = self.width as u128 * self.height as u128;
         samples.checked_mul(self.sample_bytes() as u128)
@@ -35,8 +35,8 @@ impl Attributes {
         matches!(self.bits, 8 | 16 | 32)
     }
 
-    /// Not "a zero size, over 1,024 components, row bytes below width × components × sample bytes, or that [...] past
-    /// 2^64 − 1".
+    /// Whether 14 does not hold, the bytes of a plane apart: no size is 0, there are at most 1,024 components, and the
+    /// samples of a row have no more bytes than the stride or than 64 bits count.
     pub fn shape_holds(&self) -> bool {
         if self.width == 0 || self.height == 0 || self.components == 0 {
             return false;
@@ -48,13 +48,13 @@ impl Attributes {
         row <= MOST_64 && row <= self.stride as u128
     }
 
-    /// The plane product is not past 2^64 − 1.
+    /// Whether 64 bits count the bytes of a plane: else 14, judged after the loops.
     pub fn plane_holds(&self) -> bool {
         self.plane_bytes().is_some_and(|bytes| bytes <= MOST_64)
     }
 }
 
-/// "11, 12, 13, 14", the plane product apart.
+/// The attributes in a tree: 11, 12, 13, and 14 but for the bytes of a plane.
 pub fn read(root: &Level) -> Result<Attributes, u32> {
     let level = root.level("SLxImageAttributes").ok_or(MISSING)?;
     let field = |name| unsigned_field(level, name).ok_or(MISSING);

@@ -1,4 +1,5 @@
-//! "Integers in files and lent bytes are little-endian."
+//! Document 01, before its first heading: a number of several bytes has its lowest byte first, in files and in lent
+//! buffers.
 
 /// The `N` bytes at `at`, where all of them lie in `bytes`.
 fn array_at<const N: usize>(bytes: &[u8], at: usize) -> Option<[u8; N]> {

@@ -1,4 +1,4 @@
-//! "Calibration": micrometres per pixel, and the z step.
+//! Document 01, Calibration and channels: micrometres per pixel, and the z step.
 
 use crate::loops::{children, count_field, parameters};
 use crate::numbers::{double_field, signed_field};
@@ -26,7 +26,7 @@ pub struct Calibration {
     pub z: f32,
 }
 
-/// "A tree that ends in 8 gives state 2, the rest zero."
+/// A calibration without a pixel size: its state, 2 for a packed tree and else 0, and zeros.
 pub fn unstated(state: u64) -> Calibration {
     Calibration {
         state,
@@ -49,19 +49,20 @@ pub fn read(root: &Level, experiment: &Level) -> Calibration {
     }
 }
 
-/// "SLxCalibration, dCalibration above 0", judged in f64.
+/// The pixel size: dCalibration in the level SLxCalibration, where it is above 0 as a double.
 fn pixel_size(root: &Level) -> Option<f64> {
     let level = root.level("SLxCalibration")?;
     double_field(level, "dCalibration").filter(|&size| size > 0.0)
 }
 
-/// "Z, first found in tree order, below stopped loops too"
+/// The step of the first level that states one, in the order of the walk. Levels below one that says no loop count too.
 fn z_step(experiment: &Level) -> Option<f64> {
     own_step(experiment).or_else(|| children(experiment).into_iter().find_map(z_step))
 }
 
-/// "eType 4, a dZStep not 0 without its sign; else, if uiCount exceeds 1, the distance from dZHigh to dZLow divided by
-/// count − 1 in f64, count rounded first"
+/// The step that a level itself states, if its eType is 4: dZStep without a minus sign; where that is 0, −0 or absent,
+/// |dZHigh − dZLow| ÷ (uiCount − 1), all in f64, with uiCount made a double first. Without dZHigh or dZLow, or with a
+/// uiCount of 1 or 0, there is none.
 fn own_step(experiment: &Level) -> Option<f64> {
     if signed_field(experiment, "eType") != Some(4) {
         return None;
@@ -80,7 +81,8 @@ fn own_step(experiment: &Level) -> Option<f64> {
     Some((high - low).abs() / (count as f64 - 1.0))
 }
 
-/// "In f32: class 0 none or not a positive finite number, 1 used (1e-6 to 1e3), 2 smaller, 3 larger."
+/// The class of a step in f32: 1 within the limits, 2 below them, 3 above them, and 0 where there is no step or it is
+/// no finite number above 0.
 fn z_class(step: Option<f32>) -> u64 {
     match step {
         Some(z) if z.is_finite() && z > 0.0 => {

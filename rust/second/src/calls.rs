@@ -1,4 +1,5 @@
-//! "The calls". A refusal changes no byte of samples or register and zeroes table and channel records.
+//! Document 01, The calls. A call that refuses leaves samples and register as they were lent, and zeros in table and
+//! channel records.
 
 use crate::attributes;
 use crate::bytes::{put_u32, put_u64, u32_at};
@@ -8,8 +9,9 @@ use crate::chunks::{part, MARK};
 use crate::loops;
 use crate::map::{self, Map};
 use crate::refusal::*;
-use crate::summary::{Axis, Range, Summary};
+use crate::summary::Summary;
 use crate::trees::{self, Entry};
+use crate::types::{Axis, Range};
 use crate::values::{self, Level};
 
 const LEGACY_MARK: u32 = 0x0C00_0000;
@@ -28,14 +30,15 @@ pub(crate) fn named_root(file: &[u8], map: &Map, name: &[u8], room: usize) -> Re
     Ok(values::root(file, &entries))
 }
 
-/// "Open: file, entry table." "The table is all zero afterwards."
+/// The open call: a summary, or the first refusal. The table is zeroed in both cases.
 pub fn open(file: &[u8], table: &mut [u8]) -> Result<Summary, u32> {
     table.fill(0);
     opened(file, trees::room(table))
 }
 
-/// What opening gives with a table of `room` entries: "1 or 2, 3, map chunk, 5; attributes; experiment; plane product
-/// 14"; calibration last.
+/// What opening gives with a table of `room` entries. It judges the file's first mark, the locator, the map's chunk,
+/// the map, the attributes, the experiment and its loops, the bytes of a plane (14), and then reads the calibration.
+/// The channels are not looked at.
 pub fn opened(file: &[u8], room: usize) -> Result<Summary, u32> {
     match u32_at(file, 0) {
         Some(MARK) => {}
@@ -55,8 +58,8 @@ pub fn opened(file: &[u8], room: usize) -> Result<Summary, u32> {
     Ok(Summary::new(place, sizes, &loops, calibration))
 }
 
-/// "Opening reads calibration last, channels never; only 18 stops it there." A chunk of another name is as good as none,
-/// also where its tree is packed.
+/// What the file says of the calibration. Only 18 is a refusal here. A chunk of another name is as good as none, a
+/// packed tree in it or not.
 fn calibrated(file: &[u8], map: &Map, experiment: &Level, room: usize) -> Result<Calibration, u32> {
     match named_root(file, map, calibration::CHUNK_NAME, room) {
         Ok(root) => Ok(calibration::read(&root, experiment)),
@@ -78,7 +81,7 @@ pub(crate) fn number(answer: Result<(), u32>) -> u32 {
     answer.err().unwrap_or(0)
 }
 
-/// "Plane: file, summary, scene, t, c, z, sample bytes."
+/// The plane call: the samples of component c in the frame of a point.
 #[allow(clippy::too_many_arguments)]
 pub fn plane(
     file: &[u8],
@@ -111,7 +114,7 @@ pub(crate) fn plane_bytes(s: &Summary) -> Result<u128, u32> {
     bytes.filter(|&bytes| bytes <= MOST_PLANE).ok_or(CEILING)
 }
 
-/// A frame's bytes after the prefix: "20, 21, 22, 5, 23, 4, 24", with 29 in the chunk's order.
+/// A frame's bytes behind its first 8: 20, 21, 22, 5, 23, then 4 and 29 in the chunk's order, then 24.
 pub(crate) fn frame_of<'a>(file: &'a [u8], s: &Summary, at: [u64; 4]) -> Result<&'a [u8], u32> {
     let [scene, t, _, z] = at;
     if !s.sound(file) {
@@ -132,7 +135,8 @@ pub(crate) fn frame_of<'a>(file: &'a [u8], s: &Summary, at: [u64; 4]) -> Result<
     frame_rows(file, s, map.chunk(file, name.as_bytes(), NO_FRAME)?)
 }
 
-/// 24: "under 8 bytes, row bytes × height past 2^64 − 1 or more than what follows the prefix".
+/// 24 where the data has fewer than 8 bytes, or fewer than stride × height behind them. Where 64 bits do not count that
+/// product, no data has as many.
 fn frame_rows<'a>(file: &'a [u8], s: &Summary, data: Range) -> Result<&'a [u8], u32> {
     let len = data.len.checked_sub(PREFIX).ok_or(FRAME_SHORT)?;
     let rows = s.stride as u128 * s.height as u128;
@@ -143,7 +147,8 @@ fn frame_rows<'a>(file: &'a [u8], s: &Summary, data: Range) -> Result<&'a [u8], 
     part(file, Range { start, len }).ok_or(FRAME_SHORT)
 }
 
-/// "Writes width × height samples row by row, bytes as in the file; later bytes untouched."
+/// Copies the samples of component c, row after row and without gaps, each with its bytes as they are. What is lent
+/// behind them stays.
 pub(crate) fn copy(frame: &[u8], s: &Summary, c: u64, samples: &mut [u8]) {
     let size = s.attributes().sample_bytes() as usize;
     let step = s.components as usize * size;
@@ -160,7 +165,8 @@ pub(crate) fn copy(frame: &[u8], s: &Summary, c: u64, samples: &mut [u8]) {
     }
 }
 
-/// "Tree: file, summary, a chunk name, table. One entry per record read, in file order; the rest zero."
+/// The tree call: an entry in the table for each record of the named chunk's tree, in their order, and zeros behind
+/// these.
 pub fn tree(file: &[u8], summary: &Summary, name: &[u8], table: &mut [u8]) -> u32 {
     table.fill(0);
     let room = trees::room(table);
@@ -168,8 +174,7 @@ pub fn tree(file: &[u8], summary: &Summary, name: &[u8], table: &mut [u8]) -> u3
     number(entries.map(|entries| trees::write(&entries, table)))
 }
 
-/// "Channels: file, summary, table (zero afterwards), and a lent row of channel records, one for each component;
-/// surplus records zero."
+/// The channels call: a record for each component in the lent row, empty ones behind these, and zeros in the table.
 pub fn channels(file: &[u8], summary: &Summary, table: &mut [u8], row: &mut [Channel]) -> u32 {
     table.fill(0);
     row.fill(Channel::default());
@@ -177,8 +182,8 @@ pub fn channels(file: &[u8], summary: &Summary, table: &mut [u8], row: &mut [Cha
     number(records.map(|records| row[..records.len()].copy_from_slice(&records)))
 }
 
-/// The records up to the last component that a plane covers: "20, 5, 19, 18"; "a missing or failing chunk or tree, 18
-/// excepted, gives only empty ones".
+/// The records up to the last component that a plane covers: 20, 5, 19, 18. Where there is no whole tree to read, for
+/// any other reason, there are none, and that is no refusal.
 fn channel_records(
     file: &[u8],
     summary: &Summary,
@@ -202,7 +207,8 @@ pub fn channel_root(file: &[u8], summary: &Summary) -> Result<Level, u32> {
     named_root(file, &map, channels::CHUNK_NAME, usize::MAX)
 }
 
-/// "Register: file, summary, buffer." "20, 5, 25 (a product past 2^64 − 1 is short)": no buffer is that long.
+/// The register call: a record for each frame, in the order of their numbers. 20, 5, 25, the last also where the
+/// records have more bytes than 64 bits count: no buffer is that long.
 pub fn register(file: &[u8], summary: &Summary, buffer: &mut [u8]) -> u32 {
     let map = match map_of(file, summary) {
         Ok(map) => map,
@@ -226,7 +232,7 @@ pub fn register(file: &[u8], summary: &Summary, buffer: &mut [u8]) -> u32 {
     0
 }
 
-/// "Border: [...] one function that opens and then reads a plane." "The first refusal is its answer."
+/// The border call: an opening and a plane call in one. Whichever of the two refuses first gives the number.
 #[allow(clippy::too_many_arguments)]
 pub fn read_plane(
     file: &[u8],

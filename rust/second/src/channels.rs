@@ -1,5 +1,5 @@
-//! "Channels": names and colours of the components. Since the first change request a plane's record may cover several of
-//! them in turn.
+//! Document 01, Calibration and channels: names and colours of the components. Since change request 1 the record of a
+//! plane may be that of several components.
 
 use crate::numbers::unsigned_field;
 use crate::values::{Level, Value};
@@ -35,7 +35,8 @@ pub fn all_single(root: &Level) -> bool {
     planes(root).all(|plane| count(plane).unwrap_or(1) == 1)
 }
 
-/// "SLxPictureMetadata, sPicturePlanes, level sPlaneNew, else sPlane: one record per child level"
+/// The planes: the child levels of sPlaneNew, or of sPlane where sPlaneNew is no level. Both stand in sPicturePlanes,
+/// and this in SLxPictureMetadata.
 fn planes(root: &Level) -> impl Iterator<Item = &Level> {
     let slots = parent(root).map_or(&[][..], |level| &level.slots[..]);
     slots.iter().filter_map(|slot| slot.value.as_level())

@@ -1,17 +1,18 @@
-//! "A chunk is u32 0x0ABECEDA, u32 name length, u64 data length, name, data."
+//! Document 01, Map and chunks: a chunk is a header of 16 bytes (the mark, the length of its name, the length of its
+//! data), then the name, then the data.
 
 use crate::bytes::{u32_at, u64_at};
 use crate::refusal::CHUNK;
-use crate::summary::Range;
+use crate::types::Range;
 
 /// What every chunk begins with, and every file.
 pub const MARK: u32 = 0x0ABE_CEDA;
 
 const HEADER: u128 = 16;
 
-/// The data of the chunk at `offset`, whose name has to begin with `begins`. "4 in order: header leaves the file, mark,
-/// name leaves the file, map name, data leaves the file". Where the name is another one the number is `misnamed`: 4 for the
-/// map's own chunk, and since the sixth change request 29 for one that the map leads to.
+/// The data of the chunk at `offset`, whose name has to begin with `begins`. In order: 4 for a header outside the file,
+/// for another mark and for a name outside the file; `misnamed` for another name; 4 for data outside the file.
+/// `misnamed` is 4 for the map's own chunk, and 29, since change request 6, for one that the map leads to.
 pub fn data(file: &[u8], offset: u64, begins: &[u8], misnamed: u32) -> Result<Range, u32> {
     let end = file.len() as u128;
     let name_start = offset as u128 + HEADER;

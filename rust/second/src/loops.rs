@@ -1,8 +1,8 @@
-//! "Loops": what an experiment runs over.
+//! Document 01, Loops: what an experiment runs over.
 
 use crate::numbers::{signed_field, unsigned, unsigned_field};
 use crate::refusal::{AXIS_TWICE, LOOP_COUNT, LOOP_KIND, MISSING};
-use crate::summary::{Axis, Loop};
+use crate::types::{Axis, Loop};
 use crate::values::{Level, Value};
 
 pub const CHUNK_NAME: &[u8] = b"ImageMetadataLV!";
@@ -21,19 +21,19 @@ struct Built {
     nesting: u64,
 }
 
-/// "ImageMetadataLV!, level SLxExperiment"
+/// The outermost experiment level, SLxExperiment: 11 without it.
 pub fn experiment(root: &Level) -> Result<&Level, u32> {
     root.level("SLxExperiment").ok_or(MISSING)
 }
 
-/// The loops, outermost first: 15 and 16 of the walk, then what is judged after it.
+/// The loops, outermost first: 15 and 16 as the walk meets them, then 15 and 17 of the loops that it appended.
 pub fn read(experiment: &Level) -> Result<Vec<Loop>, u32> {
     let mut built = Vec::new();
     walk(experiment, 0, &mut built)?;
     judge(&built)
 }
 
-/// "uLoopPars (a level, or a list of just one level)"
+/// The level of a loop's parameters: uLoopPars itself, or where that is a list its only element.
 pub fn parameters(experiment: &Level) -> Option<&Level> {
     match experiment.get("uLoopPars")? {
         Value::List(list) if list.len() == 1 => list[0].as_level(),
@@ -41,7 +41,7 @@ pub fn parameters(experiment: &Level) -> Option<&Level> {
     }
 }
 
-/// "Elements or entries of ppNextLevelEx that are levels"
+/// The experiment levels below one: the levels that stand in ppNextLevelEx, which may be a list or a level itself.
 pub fn children(experiment: &Level) -> Vec<&Level> {
     let parts = experiment.get("ppNextLevelEx").map(Value::parts);
     let levels = parts.unwrap_or_default().into_iter();
@@ -52,7 +52,7 @@ pub fn count_field(parameters: &Level) -> u64 {
     unsigned_field(parameters, "uiCount").unwrap_or(0)
 }
 
-/// One experiment level and those below it. "Stop here, children too."
+/// One experiment level and those below it. Below a level that says no loop none is looked at.
 fn walk(experiment: &Level, nesting: u64, built: &mut Vec<Built>) -> Result<(), u32> {
     let Some((kind, count)) = said(experiment)? else {
         return Ok(());
@@ -89,8 +89,8 @@ fn said(experiment: &Level) -> Result<Option<(i64, u64)>, u32> {
     Ok((count > 0).then_some((kind, count)))
 }
 
-/// "Type 2 counts elements or entries of Points, or with a list pItemValid (beside uLoopPars) those of its first that
-/// many whose unsigned reading is there and not 0; with no points, uiCount alone."
+/// Type 2: all n points, or where the level has a list pItemValid the valid ones among its first n elements, which read
+/// unsigned as something else than 0. Where there are no points: uiCount.
 fn point_count(experiment: &Level, parameters: &Level) -> u64 {
     let points = parameters.get("Points").map_or(0, |p| p.parts().len());
     if points == 0 {
@@ -103,15 +103,16 @@ fn point_count(experiment: &Level, parameters: &Level) -> u64 {
     first.filter(|v| unsigned(v).unwrap_or(0) != 0).count() as u64
 }
 
-/// "Type 6 prefers pPlanes.uiCount"
+/// Type 6: the uiCount in the level pPlanes where it can be read, 0 too; else the one beside pPlanes.
 fn spectral_count(parameters: &Level) -> u64 {
     let planes = parameters.level("pPlanes");
     let preferred = planes.and_then(|p| unsigned_field(p, "uiCount"));
     preferred.unwrap_or_else(|| count_field(parameters))
 }
 
-/// "Append if the last appended nesting is smaller or there is none; else, if nesting and type match, keep the larger
-/// count; else drop."
+/// Holds a loop against the one that was appended last. It is appended where there is none yet or that one has a
+/// smaller nesting; merged into one of its own nesting and type, where of the two counts the larger stays; and else
+/// dropped.
 fn append(kind: i64, count: u64, nesting: u64, built: &mut Vec<Built>) {
     let new = Built {
         kind,
@@ -128,7 +129,7 @@ fn append(kind: i64, count: u64, nesting: u64, built: &mut Vec<Built>) {
     }
 }
 
-/// "The appended loops are judged in order: a 7 gives 15, a second one of an axis 17."
+/// The appended loops, taken in their order: a custom one is 15, one on an axis that came before is 17.
 fn judge(built: &[Built]) -> Result<Vec<Loop>, u32> {
     let mut loops: Vec<Loop> = Vec::new();
     for one in built {

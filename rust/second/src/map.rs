@@ -1,10 +1,11 @@
-//! "The last 40 bytes are `ND2 CHUNK MAP SIGNATURE 0000001!` and the u64 offset of the map chunk." "Map entries are a
-//! name through its first `!`, u64 offset, u64 size; the end mark's name ends the map."
+//! Document 01, Map and chunks: the locator, a mark and where the map's chunk begins, ends the file. The map is a row
+//! of entries: a name, up to and with the next `!`, then an offset and a size of eight bytes each. A name that is the
+//! locator's mark ends it.
 
 use crate::bytes::u64_at;
 use crate::chunks;
 use crate::refusal::{CHUNK, CHUNK_NAME, MAP, TAIL};
-use crate::summary::Range;
+use crate::types::Range;
 use std::collections::HashMap;
 
 pub const END: &[u8; 32] = b"ND2 CHUNK MAP SIGNATURE 0000001!";
@@ -24,12 +25,12 @@ pub fn place(file: &[u8]) -> Result<Range, u32> {
     chunks::data(file, offset, NAME, CHUNK)
 }
 
-/// The entries in map order: name and offset. The size is never used.
+/// The entries in map order: name and offset. Sizes are passed over.
 pub struct Map<'a> {
     entries: Vec<(&'a [u8], u64)>,
 }
 
-/// One entry at `at`: its name, its offset and the place after it; or the end mark. 5 where it is cut.
+/// What stands at a place: an entry's name and offset, and where the next begins; or the end mark. 5 where it is cut.
 enum Step<'a> {
     Entry(&'a [u8], u64, usize),
     End,
@@ -49,7 +50,7 @@ fn step(data: &[u8], at: usize) -> Result<Step<'_>, u32> {
 }
 
 impl<'a> Map<'a> {
-    /// Reads a whole map: 5 for "no end name, entry cut, or a 2,000,001st entry".
+    /// Reads a whole map: 5 where it ends before the end mark or inside an entry, or has more than 2,000,000 entries.
     pub fn read(data: &'a [u8]) -> Result<Self, u32> {
         let mut entries = Vec::new();
         let mut at = 0;
@@ -63,7 +64,7 @@ impl<'a> Map<'a> {
         Ok(Map { entries })
     }
 
-    /// "The last entry of a name wins."
+    /// The offset of the furthest entry down that has the name.
     pub fn find(&self, name: &[u8]) -> Option<u64> {
         let found = self.entries.iter().rev().find(|entry| entry.0 == name);
         found.map(|entry| entry.1)

@@ -1,4 +1,4 @@
-//! Names and texts: UTF-16, in which "a lone surrogate becomes U+FFFD before names are compared".
+//! Document 01, Trees: names are UTF-16, and compared with U+FFFD for each surrogate that has no partner.
 
 use crate::bytes::u16_at;
 

@@ -12,8 +12,8 @@ fn whole(number: f64) -> bool {
     number.trunc() == number
 }
 
-/// "Attributes", the unsigned reading, as change request 4, "No more fractions as whole numbers", has it: a double counts
-/// where it is a whole number of u64, and −0 is 0; any other is as good as not there. Flags are 0 or 1.
+/// Document 01, Attributes, with change request 4: a value read unsigned. A double counts where it is a whole number of
+/// u64, and −0 is 0; any other is as good as not there. Flags are 0 or 1.
 pub fn unsigned(value: &Value) -> Option<u64> {
     match *value {
         Value::Flag(flag) => Some(flag as u64),
@@ -25,8 +25,8 @@ pub fn unsigned(value: &Value) -> Option<u64> {
     }
 }
 
-/// "Attributes", the signed reading (eCompression, eType), as change request 4 has it: a double counts where it is a whole
-/// number of i64. Whole numbers from 2^63 up are not there.
+/// Likewise a value read signed, as eCompression and eType are: a double counts where it is a whole number of i64, and
+/// whole numbers from 2^63 up are not there.
 pub fn signed(value: &Value) -> Option<i64> {
     match *value {
         Value::Flag(flag) => Some(flag as i64),
@@ -38,7 +38,8 @@ pub fn signed(value: &Value) -> Option<i64> {
     }
 }
 
-/// "Whole numbers up to 2^64 − 1 round to f64."
+/// Document 01, Calibration and channels: a value read as a double, of a whole number the f64 nearest to it, ties to
+/// even.
 pub fn double(value: &Value) -> Option<f64> {
     match *value {
         Value::Flag(flag) => Some(flag as u8 as f64),

@@ -1,6 +1,6 @@
-//! The fifth change request, "Pixel size in whole picometres": dCalibration as it is stored, times 1,000,000, to the
-//! nearest whole number, and from the middle between two to the even one. It is worked out in whole numbers of any
-//! length, so that nothing is lost on the way.
+//! Change request 5: how many picometres a pixel has. dCalibration is in micrometres; a million times its value is
+//! taken to the nearest whole number, and from the middle between two to the even one. It is worked out in whole
+//! numbers of any length, so that nothing is lost on the way.
 
 use crate::big::Big;
 use crate::calibration::CHUNK_NAME;
@@ -27,7 +27,7 @@ enum Size {
     Infinite,
 }
 
-/// File, summary, table: a number, and the picometres, which are 0 on a refusal. The table is all zero afterwards.
+/// The picometres call: a number, and the picometres, which are 0 on a refusal. The table is zeroed in every case.
 pub fn picometres(file: &[u8], summary: &Summary, table: &mut [u8]) -> (u32, u64) {
     table.fill(0);
     match answered(file, summary, trees::room(table)) {

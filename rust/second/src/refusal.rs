@@ -1,5 +1,5 @@
-//! "Why a file is turned away": the numbers, by their trade words. 26 and 27 are the second change request's,
-//! 28 is the fifth's, 29 the sixth's.
+//! Document 01, Why a file is turned away: the numbers, by their trade words. 26 and 27 came with change request 2,
+//! 28 with 5, 29 with 6.
 
 pub const FOREIGN: u32 = 1;
 pub const LEGACY: u32 = 2;

@@ -1,4 +1,4 @@
-//! The second change request, "Planes as TIFF sheets": a plane as a file of TIFF 6.0, and such a file read back.
+//! Change request 2: a plane as a file of TIFF 6.0, and such a file read back.
 
 use crate::bytes::{u16_at, u32_at};
 use crate::calls::{copy, fits, frame_of, number, plane_bytes};

@@ -1,31 +1,11 @@
-//! The summary, whether it may be used (20), and the frame numbers that its loops give.
+//! Document 01, The calls: the summary. With it, whether it may be used (20), and the frame numbers that its loops give
+//! (Loops).
 
 use crate::attributes::Attributes;
 use crate::calibration::Calibration;
+use crate::types::{Axis, Loop, Range};
 
 const MOST_COUNT: u64 = 1_000_000;
-
-/// An axis that a loop runs over: time, focus, points.
-#[derive(Clone, Copy, Debug, Default, PartialEq, Eq)]
-pub enum Axis {
-    #[default]
-    T,
-    Z,
-    P,
-}
-
-#[derive(Clone, Copy, Debug, Default, PartialEq, Eq)]
-pub struct Loop {
-    pub axis: Axis,
-    pub count: u64,
-}
-
-/// A part of a file: its first byte's position and its length.
-#[derive(Clone, Copy, Debug, Default, PartialEq, Eq)]
-pub struct Range {
-    pub start: u64,
-    pub len: u64,
-}
 
 /// What opening tells of a file. Of `loops`, the outermost first, `depth` are used; the others are T with count 0.
 #[derive(Clone, Copy, Debug, Default, PartialEq)]
@@ -84,13 +64,13 @@ impl Summary {
         &self.loops[..self.depth.min(3) as usize]
     }
 
-    /// How many values an axis has: "an absent axis has one value".
+    /// How many values an axis has: 1 where no loop runs over it.
     pub fn count(&self, axis: Axis) -> u64 {
         let found = self.used().iter().find(|l| l.axis == axis);
         found.map_or(1, |l| l.count)
     }
 
-    /// "n: from 0, for each loop, times its count plus its index"
+    /// The frame number of a point: 0 to begin with, then n × count + index for each loop, from the outside in.
     pub fn frame(&self, scene: u64, t: u64, z: u64) -> u128 {
         let index = |axis| match axis {
             Axis::T => t,
@@ -130,7 +110,8 @@ impl Summary {
             && map_end <= file.len() as u128
     }
 
-    /// "A loop count is not 1 to 1,000,000, loops are over three, an axis repeats" does not hold.
+    /// Whether no more than three loops are used, and none of them has the count 0, one over 1,000,000, or the axis of
+    /// another.
     fn loops_sound(&self) -> bool {
         if self.depth > 3 {
             return false;

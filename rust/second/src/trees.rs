@@ -1,8 +1,8 @@
-//! "Trees": a chunk's records, read into entries in file order.
+//! Document 01, Trees: a chunk's records, read into entries in file order.
 
 use crate::bytes::{put_u64, u16_at, u32_at, u64_at};
 use crate::refusal::{CUT, DEEP, KIND, LEVEL, PACKED, TABLE};
-use crate::summary::Range;
+use crate::types::Range;
 
 pub const FLAG: u8 = 1;
 pub const I32: u8 = 2;
@@ -22,7 +22,8 @@ const MOST_DEPTH: usize = 64;
 /// The bytes of one entry in a lent table.
 pub const ENTRY_BYTES: usize = 48;
 
-/// "Entries are six u64": type, name position, name units kept, value position, value bytes, parent entry plus one.
+/// What a table has of a record, in six numbers of eight bytes: its type; where its name begins, and how many units of
+/// it are kept; where its value begins, and how many bytes that has; the number of its level's entry plus one, or 0.
 #[derive(Clone, Copy, Debug, Default, PartialEq, Eq)]
 pub struct Entry {
     pub kind: u64,
@@ -80,8 +81,8 @@ pub fn written(table: &[u8]) -> Vec<Entry> {
     entries
 }
 
-/// The entries of the tree that is this part of the file, with a table of `room` entries. "The data is one record at
-/// depth 0"; "each tree starts with an empty table".
+/// The entries of the tree that is this part of the file, with a table of `room` entries, all free. The tree is one
+/// record with what is in it; what lies behind that record is ignored.
 pub fn read(file: &[u8], data: Range, room: usize) -> Result<Vec<Entry>, u32> {
     let start = data.start as usize;
     let end = start + data.len as usize;
@@ -101,7 +102,7 @@ struct Reading<'a> {
 }
 
 impl Reading<'_> {
-    /// Up to `count` records between two places. "Fewer than 2 bytes at a record's start end that level quietly."
+    /// Up to `count` records between two places. They end, without a fault, where fewer than two bytes are left.
     fn records(
         &mut self,
         start: usize,
@@ -120,8 +121,8 @@ impl Reading<'_> {
         Ok(())
     }
 
-    /// One record, and the place after it. "Packed, 0 and 10 are judged before the name, other unknown types after it,
-    /// then 18, then the value."
+    /// One record, and where it ends. A packed one (8) and the types 0 and 10 (7) are told before the name (6), types
+    /// that are not known (7) behind it. Then the record takes an entry (18), and its value is read.
     fn record(&mut self, at: usize, end: usize, depth: usize, parent: u64) -> Result<usize, u32> {
         let kind = self.bytes[at];
         let units = self.bytes[at + 1] as usize;
@@ -187,7 +188,7 @@ impl Reading<'_> {
         Ok(at + size)
     }
 
-    /// "Text (to a zero unit or until under 2 bytes remain)", kept "without its zero".
+    /// Text: the units before the first zero unit, which is passed over, or else as many whole units as there are.
     fn text(&mut self, start: usize, end: usize) -> usize {
         let mut at = start;
         while end - at >= 2 {
@@ -201,7 +202,7 @@ impl Reading<'_> {
         at
     }
 
-    /// "u64 size and bytes"
+    /// Bytes, behind eight that say how many.
     fn sized(&mut self, at: usize, end: usize) -> Result<usize, u32> {
         let size = self.word(at, end)?;
         let start = at + 8;
@@ -216,8 +217,10 @@ impl Reading<'_> {
         u64_at(&self.bytes[..end], at).ok_or(CUT)
     }
 
-    /// "level: u32 count, u64 length from the record's first byte to the children's end, children, then 8 × count bytes
-    /// skipped". "In a level: 10 for items, 10 for length, 6, depth, children, skip."
+    /// A level: four bytes that say how many items it has, eight that say how far behind the start of its record the
+    /// children end, these, and eight bytes more for each item, which are not read. Too many items and too small a
+    /// length are 10; a number or children past the end are 6; then come the depth (9), the children's own faults and
+    /// the bytes behind them (6).
     fn level(&mut self, record: usize, at: usize, end: usize, depth: usize) -> Result<usize, u32> {
         let count = u32_at(&self.bytes[..end], at).ok_or(CUT)?;
         if count > MOST_ITEMS {

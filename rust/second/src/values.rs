@@ -1,4 +1,5 @@
-//! "A value keeps its kind: flag, whole number, double, text, bytes, level or list." Entries become levels and lists.
+//! Document 01, Trees: what the entries of a tree mean. Each has a value, of a kind that goes by its type; those of
+//! type 11 become levels and lists.
 
 use crate::bytes::{u32_at, u64_at};
 use crate::names::{is, scalars, units_at};
@@ -36,7 +37,7 @@ impl Level {
         found.map(|slot| &slot.value)
     }
 
-    /// A named level must be a level: one that became a list is none.
+    /// The level under a name. A value of another kind is none, nor is a level that became a list.
     pub fn level(&self, name: &str) -> Option<&Level> {
         self.get(name).and_then(Value::as_level)
     }
@@ -50,7 +51,7 @@ impl Value {
         }
     }
 
-    /// "Elements or entries": what stands in a list or a level, one after the other.
+    /// What stands in a list or a level, one after the other; in any other value nothing.
     pub fn parts(&self) -> Vec<&Value> {
         match self {
             Value::List(list) => list.iter().collect(),
@@ -110,7 +111,8 @@ impl Building<'_> {
     }
 }
 
-/// "A level whose only entry is unnamed becomes that list, or a list of one."
+/// What a level is in the end: itself, or a list where it has the unnamed place alone. That is the list which stands
+/// there, or one of the value which does.
 fn collapsed(mut level: Level) -> Value {
     if level.slots.len() != 1 || !level.slots[0].name.is_empty() {
         return Value::Level(level);
@@ -129,7 +131,8 @@ struct Merging {
 }
 
 impl Merging {
-    /// "A repeated name keeps its first place and takes the last value."
+    /// A name that came before has its place already, and its value gives way to the new one. A new name gets a place
+    /// behind the others. All unnamed values share one.
     fn put(&mut self, name: Vec<u32>, value: Value) {
         let Some(&place) = self.places.get(&name) else {
             self.places.insert(name.clone(), self.level.slots.len());
@@ -145,7 +148,7 @@ impl Merging {
     }
 }
 
-/// "A second unnamed value turns the first into a list; if that is already a list it is appended."
+/// A further unnamed value becomes the last element of the list that is there, or the second of a new one.
 fn append(first: &mut Value, value: Value) {
     if let Value::List(list) = first {
         list.push(value);

@@ -1,5 +1,4 @@
-//! The sixth change request, "A chunk must bear its own name": 29, where it stands among the numbers of a chunk, and which
-//! calls give it.
+//! Change request 6: 29, where it stands among the numbers of a chunk, and which calls give it.
 
 mod common;
 

@@ -111,7 +111,7 @@ fn pixel_sizes() {
     assert_eq!(size(text("dCalibration", "1")), none);
     assert_eq!(size(flag("dCalibration", 2)), (1, 1.0, 1, 0.5));
     assert_eq!(size(i64("dCalibration", -1)), none);
-    // Above 0 in f64, and then +0 or infinity in f32.
+    // Above 0 as a double; the f32 nearest to it is +0, or infinity.
     assert_eq!(size(f64("dCalibration", 1e-50)), (1, 0.0, 1, 0.5));
     assert_eq!(size(f64("dCalibration", 1e50)), (1, f32::INFINITY, 1, 0.5));
     // To f64 first, and from there to f32: each time to the even one.
@@ -125,7 +125,7 @@ fn calibration_trees() {
     let good = f64("dCalibration", 0.1);
     let after = |record: Record| calibrated(level("SLxCalibration", vec![good.clone(), record]));
     assert_eq!(after(u32("dAspect", 1)), (1, 0.1, 1, 0.5));
-    // A fault after a good value voids it; a packed record that is reached first is state 2.
+    // With a fault behind it a good value does not count; where the first fault is a packed record, that is state 2.
     assert_eq!(after(raw(12, "x", &[])), none);
     assert_eq!(after(raw(5, "x", &[1])), none);
     assert_eq!(after(packed(&[0; 3])), (2, 0.0, 0, 0.0));

@@ -1,4 +1,4 @@
-//! "Both edges": document 01's lines, the starred ones and those that are run.
+//! Document 01, Both edges: its single cases, those that are proved too and those that are only run.
 
 mod common;
 
@@ -109,7 +109,7 @@ fn colour() {
     assert_eq!(channels(&file), [color]);
 }
 
-/// The starred line of eCompression, as change request 4 has it now.
+/// The case of eCompression, as it is since change request 4.
 #[test]
 fn compression() {
     let experiment = parts::experiment(&[]);
@@ -196,8 +196,9 @@ fn z_classes() {
     assert_eq!(stated(f64::NAN), (0, 0.0));
 }
 
-/// "Tempting: counting n scene first; trusting map sizes; the first of two equal names; rows packed without padding;
-/// counting loops below a stopped one."
+/// Mistakes that look right: taking the scene as the outermost loop whatever the file says; reading rows as if there
+/// were no padding behind them; looking for loops below a level that says none. Believing the map's sizes and taking
+/// the first of two entries of one name are in the next test.
 #[test]
 fn tempting() {
     let roller = sample::Roller {
@@ -236,7 +237,8 @@ fn the_last_entry_of_a_name_wins() {
     assert_eq!(plane(&file.finish(), [0; 4]).unwrap(), [1, 2, 3, 4]);
 }
 
-/// "Each tree starts with an empty table"; 18 counts every record whose type and name pass.
+/// Each tree has the whole table to itself, and needs an entry for every record in it, also for one whose value is at
+/// fault.
 #[test]
 fn table_with_no_entry_left() {
     let file = with_experiment(looped("SLxExperiment", TIME, parts::counted(2), Vec::new()));

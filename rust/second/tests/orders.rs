@@ -114,7 +114,7 @@ fn tree_and_register() {
     assert_eq!(second::register(&file, &good, &mut []), BUFFER);
 }
 
-/// "Attributes (11, chunk, tree, 11, 12, 13, 14); experiment (11, chunk, tree, 11, loops); plane product 14."
+/// Faults of the attributes come before those of the experiment, and the bytes of a plane (14) after both.
 #[test]
 fn open_in_order() {
     let large = Sizes {
@@ -138,7 +138,7 @@ fn open_in_order() {
     assert_eq!(open(&with(compressed, raw(12, "", &[]))), Err(COMPRESSION));
 }
 
-/// 18 of the calibration comes after the plane product.
+/// 18 of the calibration comes after 14 for the bytes of a plane.
 #[test]
 fn table_of_the_calibration() {
     let file = |sizes| {

@@ -1,5 +1,4 @@
-//! The fifth change request, "Pixel size in whole picometres": exact sizes, halves, limits, and every refusal in its
-//! order.
+//! Change request 5: exact sizes, halves, limits, and every refusal in its order.
 
 mod common;
 

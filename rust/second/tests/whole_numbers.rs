@@ -1,5 +1,5 @@
-//! Change request 4, "No more fractions as whole numbers", over every field that is read as one: a double there is what the
-//! whole number would be that it is, or, if it is none of the field's range, what a file without the field gives.
+//! Change request 4, over every field that is read as a whole number: a double there is what the whole number would be
+//! that it is, or, if it is none of the field's range, what a file without the field gives.
 
 mod common;
 

@@ -217,7 +217,7 @@ enough-always s room h r es name q mp tr x n y =
     let l : q .len ≤ length s = omega (arith, c .data-within, c .data-len) in
     omega (arith, suffices s q, read-passed s q n y)
 
--- (a) no bytes are joined to two summaries
+-- (a) a file is joined to one summary at most
 pub joined-unique : (s : List ℕ) (u v : Summary) → Joined s u → Joined s v → u ≡ v
 joined-unique s u v x y =
     let fit = enough-always s (length s) (omega arith) in

@@ -16,7 +16,7 @@ narrow-is (inf t) s a c C h = absurd h
 narrow-is (fin t m e) s a c C h =
     ap (λ (b : Bool). round binary32 b (m * up e) (down e)) (h .0) ∙ round-same binary32 s (m * up e) (down e) a c (down-pos e) C (h .1)
 
--- ---- "a positive finite number"
+-- ---- finite numbers above 0
 
 pub finite-below : (x : Float) → positive x ≡ true → lt x (inf false) ≡ finite x
 unfolding positive finite lt
@@ -25,7 +25,7 @@ finite-below (inf true) h = absurd (false≢true h)
 finite-below (inf false) h = refl
 finite-below (fin s m e) h = refl
 
--- ---- "(1e-6 to 1e3)", by their bits
+-- ---- the limits of class 1, by their bits
 
 pub least-bits : leastStep ≡ ofBits binary32 0x358637BD
 unfolding round ofBits

@@ -158,7 +158,7 @@ signed-of v = record { holds = there; only = back }
     back z (not-below-0 {n = n} h l) = some-bind (wholeNumber v) inI64 (pos n) z (number-in v .only (pos n) h) (rw (lt-ltb n (2 ^ 63) l) refl)
     back z (below-0 {n = n} h l) = some-bind (wholeNumber v) inI64 (negsuc n) z (number-in v .only (negsuc n) h) (rw (lt-ltb n (2 ^ 63) l) refl)
 
--- ---- "to u32"
+-- ---- numbers below 2^32
 
 pub below-some : (o : Option ℕ) (n : ℕ) → below32 o ≡ some n → (o ≡ some n) × (n < 2 ^ 32)
 unfolding below32

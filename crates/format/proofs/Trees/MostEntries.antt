@@ -178,7 +178,7 @@ fits-tree s r =
 pub fault-low : (s : List ℕ) (r : Range) (n : ℕ) → treeIn s r .stop ≡ fault n → n ≤ 10
 fault-low s r n e = subst Low e (fits-tree s r .low)
 
--- 48 × (tree bytes ÷ 2, rounded down) bytes always suffice
+-- a table with an entry for every two bytes of a tree is always enough
 pub suffices : (s : List ℕ) (r : Range) → length (treeIn s r .entries) ≤ r .len / 2
 unfolding part
 suffices s r =

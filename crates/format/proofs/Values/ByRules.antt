@@ -325,7 +325,7 @@ module _ (s : List ℕ) (es : List Entry) (D : ℕ → ℕ) (R : Ranked D 0 es) 
       let z : js ≡ k ∷ ks = rest-inj (just-unique a b) in
       rw z (ap list (elements-unique refl (of-value j w d) (spread-elements j (valueAt s es j) (k ∷ ks)) y))
 
-  -- ---- "elements or entries"
+  -- ---- elements or entries
 
   levels-list : (js : List ℕ) → All (λ j. ValueOf s es j (valueAt s es j)) js → Levels (ValueOf s es) js (levelsOf s es js)
   unfolding levelsOf

@@ -1,5 +1,4 @@
--- "Border: the viewer, which remains Rust, calls one function that opens and then reads a plane, over numbers and byte slices. The first refusal is
--- its answer."
+-- Document 01, The calls: border. For a viewer in another language, an opening and a plane call in one; whichever of the two refuses first gives the number.
 use Prim.Native.Nat.{ℕ}
 use mathlib.Core.List.{List}
 use lib.ListN.{length}

@@ -1,4 +1,4 @@
--- "Channels: file, summary, table (zero afterwards), and a lent row of channel records, one for each component; surplus records zero."
+-- Document 01, The calls: channels. It leaves a record for each component in the lent row, records of zeros behind these, and a table of zeros.
 use Prim.Native.Nat.{ℕ}
 use mathlib.Core.Bool.{cond}
 use mathlib.Core.List.{List, []}
@@ -15,7 +15,7 @@ use Rattle.format.specs.declared.Entry.{Entry}
 use Rattle.format.specs.declared.Channel.{Channel}
 use Rattle.format.specs.declared.Summary.{Summary}
 
--- "a missing or failing chunk or tree, 18 excepted, gives only empty ones"
+-- the plane records of a tree: 18 is a refusal, and without a whole tree there are none
 unfoldable pub recordsBy : List ℕ → Answer (List Entry) → Answer (List PlaneRecord)
 recordsBy s (given es) = given (planeRecords s es)
 recordsBy s (refused k) = cond (eqb k why.table) (refused why.table) (given [])

@@ -1,4 +1,4 @@
--- "Open: file, entry table. Answer: number (0 when accepted) and summary (all zero if refused). The table is all zero afterwards."
+-- Document 01, The calls: open. It answers a number and the file's summary, zero in every field where it refuses, and leaves zeros in the table.
 use Prim.Native.Nat.{ℕ}
 use mathlib.Core.List.{List}
 use lib.ListN.{length}
@@ -16,8 +16,8 @@ use Rattle.format.specs.Calibration.{zStep, zFloat, calibration}
 use Rattle.format.specs.Summary.{summaryOf, zeroSummary}
 use Rattle.format.specs.declared.Summary.{Summary}
 
--- The summary of a file, with a table of `room` entries. "Open: 1 or 2, 3, map chunk, 5; attributes (11, chunk, tree, 11, 12, 13, 14);
--- experiment (11, chunk, tree, 11, loops); plane product 14." "Opening reads calibration last, channels never; only 18 stops it there."
+-- The summary of a file, with a table of `room` entries, or the first refusal: of the map, of the attributes, of the experiment and its loops, then 14 for a
+-- plane past 2^64 − 1 bytes. Of the calibration only 18 is one; channels are not looked at.
 unfoldable pub opened : List ℕ → ℕ → Answer Summary
 unfolding mapRange namedTree calibration summaryOf ascii
 opened s room =

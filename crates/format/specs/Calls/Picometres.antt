@@ -1,4 +1,4 @@
--- Change request 5, "Pixel size in whole picometres": file, summary, table (zero afterwards); a number and the size.
+-- Change request 5: the picometres call. It answers a number and the size of a pixel, and leaves zeros in the table.
 use Prim.Native.Nat.{ℕ}
 use mathlib.Core.List.{List}
 use lib.ListN.{length}

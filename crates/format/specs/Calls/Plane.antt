@@ -1,4 +1,4 @@
--- "Plane: file, summary, scene, t, c, z, sample bytes. Writes width × height samples row by row, bytes as in the file; later bytes untouched."
+-- Document 01, The calls: plane. It leaves the samples of one component at a point, row after row, each with the bytes of the file; later bytes are as before.
 use Prim.Native.Nat.{ℕ, zero, suc, _-_, _*_, _/_, _%_}
 use mathlib.Core.Bool.{Bool, _||_}
 use mathlib.Core.List.{List, [], _++_}
@@ -17,17 +17,17 @@ use Rattle.format.specs.declared.Attributes.{Attributes}
 use Rattle.format.specs.declared.Axis.the-variants.{T, Z, P}
 use Rattle.format.specs.declared.Summary.{Summary}
 
--- "plane over 4,294,967,296 bytes"
+-- the most bytes that a plane may have: past it 22
 abbrev pub mostPlaneBytes : ℕ
 mostPlaneBytes = 4_294_967_296
 
--- "scene, t, c or z not below its count"
+-- whether an index is out of range: 21
 unfoldable pub badIndex : Summary → ℕ → ℕ → ℕ → ℕ → Bool
 badIndex u scene t c z =
     let ls = loopsOf u in
     leb (countOf P ls) scene || leb (countOf T ls) t || leb (u .components) c || leb (countOf Z ls) z
 
--- "under 8 bytes, row bytes × height past 2^64 − 1 or more than what follows the prefix": n is the length of the frame's data
+-- whether n bytes are too few for a frame: 24. It has 8 in front and stride × height behind them, a product that has to fit in 64 bits
 unfoldable pub badFrame : Summary → ℕ → Bool
 badFrame u n =
     let rows = u .stride * u .height in
@@ -59,7 +59,7 @@ samples zero s a start c j = []
 samples (suc n) s a start c j =
     part s (samplePlace a start c (j / a .width) (j % a .width)) (sampleBytes (a .bits)) ++ samples n s a start c (suc j)
 
--- "width × height samples row by row, bytes as in the file"
+-- all samples of component c, row after row
 unfoldable pub planeSamples : List ℕ → Summary → ℕ → Range → List ℕ
 unfolding samples
 planeSamples s u c r = samples (u .width * u .height) s (shapeOf u) (r .start) c 0
@@ -69,7 +69,7 @@ pub record Outcome : Type 0 where
   pub number : ℕ
   pub buffer : List ℕ
 
--- "a refusal .. changes no byte of samples or register"
+-- a refused plane leaves the buffer as it was
 unfoldable pub planeBy : List ℕ → Summary → ℕ → List ℕ → Answer Range → Outcome
 unfolding over planeSamples
 planeBy s u c buf (refused n) = record { number = n; buffer = buf }

@@ -1,5 +1,5 @@
--- "Register: file, summary, buffer. One record per frame number n from 0 up, no header, 24 bytes: scene, t, z, state (u32 each; 0 in the map, 1
--- absent), then the map's offset (u64, 0 if absent). Later bytes untouched."
+-- Document 01, The calls: register. It leaves one record of 24 bytes for each frame, in the order of their numbers, and the bytes behind these as before.
+-- A record has scene, t, z and state in four bytes each, and eight of offset: state 0 and the map's offset, or state 1 and 0 for a frame without an entry.
 use Prim.Native.Nat.{ℕ, zero, suc, _*_}
 use mathlib.Core.Bool.{_||_}
 use mathlib.Core.Option.{Option, none, some}
@@ -35,7 +35,7 @@ unfolding frameRecord
 registerFrom zero m es ls n = []
 registerFrom (suc k) m es ls n = frameRecord m es ls n ++ registerFrom k m es ls (suc n)
 
--- The map's entries: 20, 5, 25. "(a product past 2^64 − 1 is short)": `room` is the length of the lent buffer.
+-- The map's entries: 20, 5, 25, the last also where the register would be longer than 2^64 − 1 bytes. `room` is the length of the lent buffer.
 unfoldable pub registered : List ℕ → Summary → ℕ → Answer (List MapEntry)
 registered s u room =
     let size = 24 * frames (loopsOf u) in

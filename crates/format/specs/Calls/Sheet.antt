@@ -1,4 +1,4 @@
--- Change request 2, "Planes as TIFF sheets": one call writes a plane as a sheet, the other reads a sheet back. What is lent keeps the bytes behind the answer,
+-- Change request 2: one call writes a plane as a sheet, the other reads a sheet back. What is lent keeps the bytes behind the answer,
 -- and every byte where a call is refused.
 use Prim.Native.Nat.{ℕ}
 use mathlib.Core.Bool.{Bool, cond, not, _&&_}

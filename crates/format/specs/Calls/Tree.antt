@@ -1,4 +1,4 @@
--- "Tree: file, summary, a chunk name, table. One entry per record read, in file order; the rest zero."
+-- Document 01, The calls: tree. It leaves an entry in the table for each record of the named chunk's tree, in their order, and zeros behind these.
 use Prim.Native.Nat.{ℕ}
 use mathlib.Core.List.{List}
 use lib.ListN.{length}
@@ -18,7 +18,7 @@ treeNamed s u name room =
     refuseIf (badSummary s u) why.summary
     (andThen (mapEntries (mapOf s u)) λ es. namedTree s (mapOf s u) es room name)
 
--- n is the table's length: "a refusal .. zeroes table and channel records"
+-- n is the table's length; a refused call leaves it all zero
 unfoldable pub treeBy : ℕ → Answer (List Entry) → Outcome
 unfolding over zeros tableBytes
 treeBy n (refused k) = record { number = k; buffer = zeros n }

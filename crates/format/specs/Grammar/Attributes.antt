@@ -1,4 +1,4 @@
--- "The grammar": the attributes, as rules.
+-- Document 01, The grammar: the attributes, as rules.
 use Prim.Native.Nat.{ℕ, _^_, _≤_, _<_}
 use mathlib.Core.List.{List}
 use lib.IntN.{pos}

@@ -1,4 +1,4 @@
--- "The grammar": the z step, and what calibration gives, as rules.
+-- Document 01, The grammar: the z step, and what calibration gives, as rules.
 use Prim.Native.Nat.{ℕ, _<_}
 use mathlib.Core.Path.{_≡_}
 use mathlib.Core.Bool.{Bool, true, false}
@@ -24,17 +24,18 @@ use Rattle.format.specs.declared.Calibration.{Calibration}
 -- ---- the z step
 
 module _ (s : List ℕ) (es : List Entry) where
-  -- the level i is a Z loop's, of "eType 4", with the parameters p
+  -- the level i is a Z loop's, of eType 4, with the parameters p
   pub record Focus (i p : ℕ) : Type 0 where
     pub parameters : Parameters s es i p
     pub kind : Signed s es i (ascii "eType") (pos 4)
 
-  -- "a dZStep not 0"
+  -- dZStep is there, and neither 0 nor −0
   pub record StatedStep (p : ℕ) (x : Float) : Type 0 where
     pub stated : Double s es p (ascii "dZStep") x
     pub not-zero : ne x zeroFloat ≡ true
 
-  -- "without its sign; else, if uiCount exceeds 1, the distance from dZHigh to dZLow divided by count − 1 in f64, count rounded first"
+  -- The step that the level i states: dZStep without a minus sign. Where there is no such dZStep, and uiCount is over 1: |dZHigh − dZLow| ÷ (uiCount − 1), each
+  -- step an operation of f64, with uiCount made a double first.
   pub data StepOf (i : ℕ) : Float → Type 0 where
     stated : {p : ℕ} {x : Float} → Focus i p → StatedStep p x → StepOf i (magnitude x)
     spanned : {p n : ℕ} {high low : Float} → Focus i p → ((x : Float) → StatedStep p x → ⊥) → UiCount s es p n → 1 < n
@@ -44,7 +45,7 @@ module _ (s : List ℕ) (es : List Entry) where
   abbrev pub NoStep : ℕ → Type 0
   NoStep i = (x : Float) → StepOf i x → ⊥
 
-  -- the z step of the experiment levels `is`: "first found in tree order, below stopped loops too"
+  -- the z step of the experiment levels `is`, the first that one of them states: a level comes before those below it, and these are searched even if it stops
   pub data Steps : List ℕ → Option Float → Type 0 where
     nowhere : Steps [] none
     own : {i : ℕ} {is : List ℕ} {x : Float} → StepOf i x → Steps (i ∷ is) (some x)
@@ -70,7 +71,7 @@ pub data Classed : Option Float → ℕ → Float → Type 0 where
 
 -- ---- the calibration
 
--- "SLxCalibration, dCalibration above 0"
+-- the pixel size that a tree states: dCalibration in SLxCalibration, where it is above 0
 pub record PixelSize (s : List ℕ) (es : List Entry) (x : Float) : Type 0 where
   pub at-level : ℕ
   pub level-there : Field s es 0 (ascii "SLxCalibration") (level at-level)

@@ -1,4 +1,4 @@
--- "The grammar": the channel records that a tree states, as rules. i is the number of the entry of a plane's level.
+-- Document 01, The grammar: the channel records that a tree states, as rules. i is the number of the entry of a plane's level.
 use Prim.Native.Nat.{ℕ, suc, _+_, _*_, _^_, _≤_, _<_}
 use mathlib.Core.Path.{_≡_}
 use mathlib.Core.List.{List, [], _∷_, _++_}

@@ -1,4 +1,4 @@
--- "The grammar": chunks, as rules.
+-- Document 01, The grammar: chunks, as rules.
 use Prim.Native.Nat.{ℕ, _+_, _≤_}
 use mathlib.Core.Path.{_≡_}
 use mathlib.Core.List.{List, _++_}
@@ -12,7 +12,7 @@ pub record Begins (p s : List ℕ) : Type 0 where
   pub rest : List ℕ
   pub joined : s ≡ p ++ rest
 
--- A chunk begins at `at` with u32 mark, u32 name length, u64 data length and the whole of its name.
+-- A chunk begins at `at`: its header of 16 bytes is there, with the mark, and so is the whole of its name.
 pub record Headed (s : List ℕ) (at : ℕ) : Type 0 where
   pub header-within : at + 16 ≤ length s
   pub mark : leAt 4 s at ≡ chunkMark

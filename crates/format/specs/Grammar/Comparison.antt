@@ -1,4 +1,4 @@
--- Change request 3, "Name checks that finish early": what comparing two names tells, as rules.
+-- Change request 3: what comparing two names tells, as rules.
 use Prim.Native.Nat.{ℕ, suc, _+_, _*_, _≤_, _<_}
 use mathlib.Core.Path.{_≡_}
 use mathlib.Core.Bool.{Bool, true, false}

@@ -1,4 +1,4 @@
--- "The grammar": a file and its summary.
+-- Document 01, The grammar: a file and its summary.
 use Prim.Native.Nat.{ℕ, _≤_, _<_}
 use mathlib.Core.Path.{_≡_}
 use mathlib.Core.Option.{Option, some}

@@ -1,4 +1,4 @@
--- "The grammar": the numbers of frames and their names, as rules.
+-- Document 01, The grammar: the numbers of frames and their names, as rules.
 use Prim.Native.Nat.{ℕ, _+_, _*_, _<_}
 use mathlib.Core.Path.{_≡_}
 use mathlib.Core.List.{List, [], _∷_, _++_}
@@ -43,7 +43,7 @@ pub data Decimal : ℕ → List ℕ → Type 0 where
   digit : {n : ℕ} → n < 10 → Decimal n ((48 + n) ∷ [])
   digits : {n d : ℕ} {ds : List ℕ} → 0 < n → Decimal n ds → d < 10 → Decimal (n * 10 + d) (ds ++ (48 + d) ∷ [])
 
--- "ImageDataSeq, bar, n in decimal, !"
+-- the name of the chunk of frame n: its number between `ImageDataSeq|` and `!`
 pub record FrameName (n : ℕ) (name : List ℕ) : Type 0 where
   pub number : List ℕ
   pub decimal : Decimal n number

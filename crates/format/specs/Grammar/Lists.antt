@@ -1,4 +1,4 @@
--- "The grammar": what its rules say of lists.
+-- Document 01, The grammar: what its rules say of lists.
 use Prim.Native.Nat.{ℕ, _<_}
 use mathlib.Core.List.{List, [], _∷_}
 

@@ -1,4 +1,4 @@
--- "The grammar": the loops, as rules. i is the number of an experiment level's entry, and p that of its parameters.
+-- Document 01, The grammar: the loops, as rules. i is the number of an experiment level's entry, and p that of its parameters.
 use Prim.Native.Nat.{ℕ, suc, _≤_, _<_, max}
 use mathlib.Core.Path.{_≡_}
 use mathlib.Core.List.{List, [], _∷_, reverse}
@@ -34,12 +34,12 @@ pub data Counted : List Loop → Type 0 where
 -- ---- what one experiment level says
 
 module _ (s : List ℕ) (es : List Entry) where
-  -- "uLoopPars (a level, or a list of just one level)"
+  -- the level of a loop's parameters: uLoopPars itself, or the only element of a list
   pub data Parameters (i : ℕ) : ℕ → Type 0 where
     in-level : {p : ℕ} → Field s es (suc i) (ascii "uLoopPars") (level p) → Parameters i p
     in-list : {j p : ℕ} → Field s es (suc i) (ascii "uLoopPars") (list (j ∷ [])) → ValueOf s es j (level p) → Parameters i p
 
-  -- "Counts are uiCount"; without one, 0
+  -- the count that uiCount states; without one, 0
   pub data UiCount (p : ℕ) : ℕ → Type 0 where
     stated : {n : ℕ} → Unsigned s es p (ascii "uiCount") n → UiCount p n
     unstated : ((n : ℕ) → Unsigned s es p (ascii "uiCount") n → ⊥) → UiCount p 0
@@ -50,32 +50,32 @@ module _ (s : List ℕ) (es : List Entry) where
     pub there : Field s es (suc p) (ascii "pPlanes") (level planes)
     pub count : Unsigned s es planes (ascii "uiCount") n
 
-  -- "type 6 prefers pPlanes.uiCount"
+  -- the count of type 6: the one in pPlanes where it can be read, else uiCount
   pub data SpectralCount (p : ℕ) : ℕ → Type 0 where
     preferred : {n : ℕ} → PlanesCount p n → SpectralCount p n
     plain : {n : ℕ} → ((m : ℕ) → PlanesCount p m → ⊥) → UiCount p n → SpectralCount p n
 
-  -- Points has n "elements or entries"
+  -- Points has n elements or entries
   pub record Points (p n : ℕ) : Type 0 where
     pub value : Value
     pub there : Field s es (suc p) (ascii "Points") value
     pub size : SizeOf s es value n
 
-  -- how many of these entries have an "unsigned reading [that] is there and not 0"
+  -- how many of these entries read unsigned as something else than 0
   pub data Valid : List ℕ → ℕ → Type 0 where
     no-more : Valid [] 0
     set : {i m n : ℕ} {v : Value} {is : List ℕ} → ValueOf s es i v → ReadsUnsigned v (suc m) → Valid is n → Valid (i ∷ is) (suc n)
     unset : {i n : ℕ} {v : Value} {is : List ℕ} → ValueOf s es i v → ((m : ℕ) → ReadsUnsigned v (suc m) → ⊥) → Valid is n → Valid (i ∷ is) n
 
-  -- "type 2 counts elements or entries of Points, or with a list pItemValid (beside uLoopPars) those of its first that many whose unsigned reading
-  -- is there and not 0; with no points, uiCount alone"
+  -- The count of type 2: uiCount where there are no points. Of m points all count, or, where the experiment's level has a list pItemValid, the valid ones among
+  -- the first m elements of that.
   pub data PointCount (i p : ℕ) : ℕ → Type 0 where
     no-points : {n : ℕ} → ((m : ℕ) → Points p (suc m) → ⊥) → UiCount p n → PointCount i p n
     all-points : {m : ℕ} → Points p (suc m) → ((l : List ℕ) → Field s es (suc i) (ascii "pItemValid") (list l) → ⊥) → PointCount i p (suc m)
     valid-points : {m n : ℕ} {l : List ℕ} → Points p (suc m) → Field s es (suc i) (ascii "pItemValid") (list l) → Valid (take (suc m) l) n
         → PointCount i p n
 
-  -- the count of a loop of type t: "Types 1 and 8 are T, 2 P, 4 Z, 6 spectral (never appended), 7 custom"; no other type has one
+  -- the count of a loop of type t; types that are not read have none
   pub data Count (i p : ℕ) : ℕ → ℕ → Type 0 where
     of-time : {n : ℕ} → UiCount p n → Count i p 1 n
     of-points : {n : ℕ} → PointCount i p n → Count i p 2 n
@@ -84,7 +84,7 @@ module _ (s : List ℕ) (es : List Entry) where
     of-custom : {n : ℕ} → UiCount p n → Count i p 7 n
     of-time-uneven : {n : ℕ} → UiCount p n → Count i p 8 n
 
-  -- "No uLoopPars .., eType 0, absent or over 10, or a count of 0: stop here, children too."
+  -- the level says no loop, and the walk ends there: it has no parameters, no type, the type 0 or one over 10, or the count 0
   pub data Stops (i : ℕ) : Type 0 where
     no-parameters : ((p : ℕ) → Parameters i p → ⊥) → Stops i
     no-type : ((t : ℤ) → Signed s es i (ascii "eType") t → ⊥) → Stops i
@@ -101,15 +101,15 @@ module _ (s : List ℕ) (es : List Entry) where
     pub count-some : 0 < c
     pub count-most : c ≤ mostCount
 
-  -- "Elements or entries of ppNextLevelEx that are levels"
+  -- the experiment levels below: the levels among the elements or entries of ppNextLevelEx
   pub data Below (i : ℕ) : List ℕ → Type 0 where
     levels : {v : Value} {is : List ℕ} → Field s es (suc i) (ascii "ppNextLevelEx") v → LevelsIn s es v is → Below i is
     no-levels : ((v : Value) → Field s es (suc i) (ascii "ppNextLevelEx") v → ⊥) → Below i []
 
 -- ---- the walk
 
--- A loop of type t and count c at nesting n joins those appended before it, the last one first: "Append if the last appended nesting is smaller or
--- there is none; else, if nesting and type match, keep the larger count; else drop."
+-- A loop of type t and count c at nesting n joins those appended before it, the last one first. It is appended where it is the first or nested deeper than the
+-- last; it is merged with one of its nesting and type, so that the larger of both counts stays; any other is dropped.
 pub data Appended (t c n : ℕ) : List Built → List Built → Type 0 where
   first : Appended t c n [] (record { kind = t; count = c; nesting = n } ∷ [])
   deeper : {b : Built} {bs : List Built} → b .nesting < n → Appended t c n (b ∷ bs) (record { kind = t; count = c; nesting = n } ∷ b ∷ bs)
@@ -118,7 +118,7 @@ pub data Appended (t c n : ℕ) : List Built → List Built → Type 0 where
   dropped : {b : Built} {bs : List Built} → n ≤ b .nesting → (b .nesting ≡ n → b .kind ≡ t → ⊥) → Appended t c n (b ∷ bs) (b ∷ bs)
 
 -- The experiment levels `is` at nesting n make the loops bs into bs′. A level that stops says nothing, its levels below too; a spectral one is
--- never appended; the levels below any other "go one deeper, under spectral at the same nesting".
+-- not appended, and the nesting stays below it; below any other it is one more.
 pub data Walks (s : List ℕ) (es : List Entry) : List ℕ → ℕ → List Built → List Built → Type 0 where
   done : {n : ℕ} {bs : List Built} → Walks s es [] n bs bs
   stops : {i n : ℕ} {is : List ℕ} {bs bs′ : List Built} → Stops s es i → Walks s es is n bs bs′ → Walks s es (i ∷ is) n bs bs′
@@ -127,7 +127,7 @@ pub data Walks (s : List ℕ) (es : List Entry) : List ℕ → ℕ → List Buil
   appends : {i n t c : ℕ} {is ks : List ℕ} {bs bs₁ bs₂ bs₃ : List Built} → LoopAt s es i t c → (t ≡ 6 → ⊥) → Appended t c n bs bs₁
       → Below s es i ks → Walks s es ks (suc n) bs₁ bs₂ → Walks s es is n bs₂ bs₃ → Walks s es (i ∷ is) n bs bs₃
 
--- "Types 1 and 8 are T, 2 P, 4 Z": the axis of a type. Custom, 7, has none
+-- the axis of a type: time for 1 and 8, points for 2, focus for 4. Custom, 7, has none
 pub data OnAxis : ℕ → Axis → Type 0 where
   time : OnAxis 1 T
   points : OnAxis 2 P

@@ -1,4 +1,4 @@
--- "The grammar": the map, as rules.
+-- Document 01, The grammar: the map, as rules.
 use Prim.Native.Nat.{ℕ, suc, _+_, _-_, _≤_, _<_}
 use mathlib.Core.Path.{_≡_}
 use mathlib.Core.List.{List, [], _∷_}

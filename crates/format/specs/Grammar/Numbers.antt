@@ -1,5 +1,5 @@
--- "The grammar": the numbers that a tree states, as rules. i is the number of a level's entry. A double is a whole number where its value is one
--- (change request 4, "No more fractions as whole numbers"); negsuc n is −(n + 1).
+-- Document 01, The grammar: the numbers that a tree states, as rules. i is the number of a level's entry. A double is a whole number where its value is one
+-- (change request 4); negsuc n is −(n + 1).
 use Prim.Native.Nat.{ℕ, suc, _+_, _*_, _^_, _≤_, _<_}
 use mathlib.Core.Path.{_≡_}
 use mathlib.Core.Bool.{Bool, true, false}

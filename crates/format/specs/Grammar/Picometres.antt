@@ -1,5 +1,4 @@
--- Change request 5, "Pixel size in whole picometres", as rules over whole numbers. The size that a tree states is taken as it is stored: a whole number is not
--- made a double first.
+-- Change request 5: picometres, as rules over whole numbers. The size that a tree states is taken as it is stored: a whole number is not made a double first.
 use Prim.Native.Nat.{ℕ, suc, _+_, _-_, _*_, _%_, _≤_, _<_}
 use mathlib.Core.Path.{_≡_}
 use mathlib.Core.Bool.{false}

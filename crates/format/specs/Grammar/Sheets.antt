@@ -1,4 +1,4 @@
--- Change request 2, "Planes as TIFF sheets", as rules: what TIFF 6.0 finds at each place of a sheet, read from its bytes.
+-- Change request 2: sheets, as rules: what TIFF 6.0 finds at each place of a sheet, read from its bytes.
 use Prim.Native.Nat.{ℕ, _+_, _*_, _≤_, _<_}
 use mathlib.Core.Path.{_≡_}
 use mathlib.Core.List.{List}

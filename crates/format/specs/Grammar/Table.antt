@@ -1,4 +1,4 @@
--- "The grammar": "The table has entries enough".
+-- Document 01, The grammar: whether a table is enough.
 use Prim.Native.Nat.{ℕ, _≤_}
 use mathlib.Core.List.{List}
 use Rattle.format.specs.Bytes.{ascii}
@@ -14,8 +14,8 @@ pub data TreeRead : List ℕ → Type 0 where
   experiment : TreeRead (ascii "ImageMetadataLV!")
   calibration : TreeRead (ascii "ImageCalibrationLV|0!")
 
--- "The table has entries enough if it holds at least as many whole ones as each tree read has records, at every depth, whose type and name pass, up to that
--- tree's end or first fault other than 18." `room` is how many whole entries it holds.
+-- A table of `room` whole entries is enough where of no tree that opening reads more records than that pass, those inside of levels too, before the tree ends
+-- or a fault stops it.
 abbrev pub Enough : List ℕ → ℕ → Type 0
 Enough s room =
     (r : Range) (es : List MapEntry) (name : List ℕ) (q : Range) → Mapped s r es → TreeRead name → Named s (dataIn s r) es name q

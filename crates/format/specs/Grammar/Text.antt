@@ -1,4 +1,4 @@
--- "The grammar": the units of a name, as rules. Names are compared with U+FFFD for each surrogate that has no partner.
+-- Document 01, The grammar: the units of a name, as rules. Names are compared with U+FFFD for each surrogate that has no partner.
 use Prim.Native.Nat.{ℕ, _≤_, _<_}
 use mathlib.Core.List.{List, [], _∷_}
 

@@ -1,4 +1,4 @@
--- "The grammar": trees, as rules. d is a tree's data, and `base` the file position of its first byte.
+-- Document 01, The grammar: trees, as rules. d is a tree's data, and `base` the file position of its first byte.
 use Prim.Native.Nat.{ℕ, suc, _+_, _-_, _*_, _≤_, _<_}
 use mathlib.Core.Path.{_≡_}
 use mathlib.Core.List.{List, [], _∷_, _++_}
@@ -69,8 +69,8 @@ pub data NameUnits : ℕ → ℕ → Type 0 where
   unnamed : NameUnits 0 0
   but-last : {n : ℕ} → NameUnits (suc n) n
 
--- The entry of the record at i, whose value is the len bytes from `from` on; positions count from the
--- file's start, and `parent` is its level's entry plus one.
+-- The entry of the record at i, whose value is the len bytes from `from` on; its positions are those in
+-- the file, and `parent` is its level's entry plus one.
 pub record EntryOf (d : List ℕ) (base parent i from len : ℕ) (en : Entry) : Type 0 where
   pub kind : en .kind ≡ getD d i 0
   pub name : en .name ≡ base + i + 2
@@ -112,8 +112,7 @@ pub record Judged (k : ℕ) : Type 0 where
 -- ---- faults
 
 -- What is wrong with the record that begins at i, in a level that ends at e, with n the refusal's number; `left` is how many levels may stand here one in
--- another. "Packed, 0 and 10 are judged before the name, other unknown types after it, .. then the value. In a level: 10 for items, 10 for length, 6,
--- depth".
+-- another. The order is: the types 76, 0 and 10, the name, every other type, the value; of a level its count, its length, where its children end, its depth.
 pub data Wrong (d : List ℕ) (i e : ℕ) : ℕ → ℕ → Type 0 where
   packed-type : {left : ℕ} → getD d i 0 ≡ packedType → Wrong d i e left why.packed
   type-0 : {left : ℕ} → getD d i 0 ≡ 0 → Wrong d i e left why.kind

@@ -1,4 +1,4 @@
--- "The grammar": what the entries es of a tree in the file s mean, as rules. p is the number of a level's entry plus one, and 0 stands for the whole tree.
+-- Document 01, The grammar: what the entries es of a tree in the file s mean, as rules. p is the number of a level's entry plus one, or 0 for the whole tree.
 use Prim.Native.Nat.{ℕ, suc, _+_, _*_, _^_, _≤_, _<_}
 use mathlib.Core.Path.{_≡_}
 use mathlib.Core.Bool.{true, false}
@@ -23,7 +23,7 @@ pub data Complement (half n : ℕ) : ℤ → Type 0 where
   -- no bytes stand for such an n: it takes a list with a number over 255
   beyond : half + half ≤ n → Complement half n (negsuc 0)
 
--- The value of an entry that is no level, by its type ("Trees"). A flag is set
+-- The value of an entry that is no level, by its type (document 01, Trees). A flag is set
 -- where its byte is not 0, and a text has a unit for every two of its bytes.
 pub data LeafOf (s : List ℕ) (e : Entry) : Value → Type 0 where
   of-unset : e .kind ≡ 1 → leAt 1 s (e .value) ≡ 0 → LeafOf s e (flag false)
@@ -45,8 +45,8 @@ NoList v = (l : List ℕ) → v ≡ list l → ⊥
 abbrev pub NoLevel : Value → Type 0
 NoLevel v = (i : ℕ) → v ≡ level i → ⊥
 
--- "A second unnamed value turns the first into a list; if that is already a list it is appended": the elements where the first unnamed entry is j,
--- its value v, and js are the later ones
+-- The elements of a list of unnamed entries: j is the first of them, with the value v, and js are the later ones. Where v is a list itself, its elements stand
+-- in the place of j.
 pub data Elements (j : ℕ) (v : Value) (js : List ℕ) : List ℕ → Type 0 where
   first : NoList v → Elements j v js (j ∷ js)
   appended : {l : List ℕ} → v ≡ list l → Elements j v js (l ++ js)
@@ -67,18 +67,18 @@ module _ (s : List ℕ) (es : List Entry) where
     pub child : entry .parent ≡ p
     pub name-is : Mended (units (entry .units) s (entry .name)) name
 
-  -- no later entry of the level bears the name: it "takes the last value"
+  -- no later entry of the level bears the name: what the name means is the value of this one
   pub record Last (p : ℕ) (name : List ℕ) (j : ℕ) : Type 0 where
     pub bears : Bears p name j
     pub none-later : (k : ℕ) → j < k → Bears p name k → ⊥
 
-  -- no earlier entry of the level bears the same name: it "keeps its first place"
+  -- no earlier entry of the level bears the same name: here the name has its place
   pub record Place (p j : ℕ) : Type 0 where
     pub name : List ℕ
     pub bears : Bears p name j
     pub none-earlier : (k : ℕ) → k < j → Bears p name k → ⊥
 
-  -- the level's "only entry is unnamed": it has entries, and none of them has a name
+  -- the level has entries, and none of them has a name
   pub record Nameless (p : ℕ) : Type 0 where
     pub one : ℕ
     pub unnamed : Bears p [] one
@@ -105,9 +105,9 @@ module _ (s : List ℕ) (es : List Entry) where
     of-one : {v : Value} → Just (Bears p []) (j ∷ []) → ValueOf j v → PlaceValue p j v
     of-several : {k : ℕ} {v : Value} {js l : List ℕ} → Just (Bears p []) (j ∷ k ∷ js) → ValueOf j v → Elements j v (k ∷ js) l → PlaceValue p j (list l)
 
-  -- ---- "elements or entries"
+  -- ---- elements or entries
 
-  -- the elements or entries of a value "that are levels"
+  -- the levels among the elements or entries of a value
   pub data LevelsIn : Value → List ℕ → Type 0 where
     of-level : {i : ℕ} {is js : List ℕ} → Just (Place (suc i)) js → Levels (PlaceValue (suc i)) js is → LevelsIn (level i) is
     of-list : {is js : List ℕ} → Levels ValueOf js is → LevelsIn (list js) is

@@ -1,4 +1,4 @@
--- Change request 6, "A chunk must bear its own name": the refusals of a chunk that the map has under a name, by stages, since 4 comes before 29 and behind it.
+-- Change request 6: the refusals of a chunk that the map has under a name, by stages, since 4 comes before 29 and behind it.
 use Prim.Native.Nat.{ℕ}
 use mathlib.Core.List.{List, [], _∷_}
 use Rattle.format.specs.Grammar.Chunks.{Begins, Headed, ownName, DataWithin}

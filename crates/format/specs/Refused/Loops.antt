@@ -1,4 +1,4 @@
--- The refusals of loops ("Loops"): 15 and 16 in the walk, then 15 and 17 of the appended ones, in their order. i is the
+-- The refusals of loops (document 01, Loops): 15 and 16 in the walk, then 15 and 17 of the appended ones, in their order. i is the
 -- number of an experiment level's entry.
 use Prim.Native.Nat.{ℕ, _≤_, _<_}
 use mathlib.Core.Path.{_≡_}

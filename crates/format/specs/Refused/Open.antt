@@ -56,8 +56,7 @@ pub data Stage : Type 0 where
   plane : Stage
   calibration : Stage
 
--- The order of document 01 for opening ("Why a file is turned away"), and last the calibration's 18. Of a tree's own refusals 18 comes before a later
--- fault.
+-- The order for opening (document 01, Why a file is turned away), and last the calibration's 18. Of a tree's own refusals 18 comes before a later fault.
 abbrev pub openOrder : List Stage
 openOrder =
     first-mark ∷ tail ∷ map-chunk ∷ map

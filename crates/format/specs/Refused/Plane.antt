@@ -1,4 +1,4 @@
--- The plane call: "20, 21, 22, 5, 23, 4, 24, 25", and 29 with 4 before and behind it (change request 6); so by stages.
+-- The plane call: 20, 21, 22, 5, 23, the chunk, 24, 25. The chunk has 4 before 29 and behind it (change request 6); so by stages.
 use Prim.Native.Nat.{ℕ, _+_, _-_, _*_, _≤_, _<_}
 use mathlib.Core.Path.{_≡_}
 use mathlib.Core.List.{List, [], _∷_, _++_, map as each}
@@ -19,7 +19,7 @@ use Rattle.format.specs.declared.Axis.the-variants.{T, Z, P}
 use Rattle.format.specs.declared.Loop.{Loop}
 use Rattle.format.specs.declared.Summary.{Summary}
 
--- each index is below its axis's count: "an absent axis has one value"
+-- each index is below its axis's count, which is 1 where no loop runs over it
 pub record Within (ls : List Loop) (scene t z : ℕ) : Type 0 where
   pub scene-below : scene < countOf P ls
   pub t-below : t < countOf T ls
@@ -39,7 +39,7 @@ pub record FrameData (s : List ℕ) (u : Summary) (n : ℕ) (r : Range) : Type 0
   pub entry : FrameEntry s u n offset
   pub chunk : Chunk (entry .name) s offset r
 
--- the data is long enough: not "under 8 bytes, row bytes × height past 2^64 − 1 or more than what follows the prefix"
+-- the data is long enough: 8 bytes, and behind them stride × height, which fits in 64 bits
 pub record FrameLong (u : Summary) (r : Range) : Type 0 where
   pub prefix : 8 ≤ r .len
   pub product : u .stride * u .height ≤ most64
@@ -84,8 +84,8 @@ pub data PlaneRefusal (s : List ℕ) (u : Summary) (scene t c z : ℕ) (buf : Li
   frame-refused : {a : FrameStage} {n : ℕ} → FrameRefusal s u scene t c z a n → PlaneRefusal s u scene t c z buf (frame a) n
   buffer-short : length buf < planeBytes (shapeOf u) → PlaneRefusal s u scene t c z buf buffer why.buffer
 
--- `out` is what an accepted plane of component c leaves in `buf`; chunk is the data of the frame's chunk. Sample y × width + x is, byte for byte, the one that
--- begins 8 + y × row bytes + (x × components + c) × sample bytes into that data; the bytes behind the samples are as they were.
+-- `out` is what an accepted plane of component c leaves in `buf`; chunk is the data of the frame's chunk. Of each sample (x, y), row after row, `out` has the
+-- bytes that it has in that data, where 8 bytes come first and each row has stride bytes; the bytes behind the samples are as they were.
 pub record Copied (u : Summary) (c : ℕ) (chunk buf out : List ℕ) : Type 0 where
   pub sample : (y x k : ℕ) → y < u .height → x < u .width → k < sampleBytes (u .bits)
       → getD out ((y * u .width + x) * sampleBytes (u .bits) + k) 0

@@ -1,4 +1,4 @@
--- The register call: "20, 5, 25 (a product past 2^64 − 1 is short)".
+-- The register call: 20, 5, 25. The last holds also where the register would be longer than 2^64 − 1 bytes.
 use Prim.Native.Nat.{ℕ, _*_, _<_, _≤_}
 use mathlib.Core.Path.{_≡_}
 use mathlib.Core.Logic.{_⊎_}
@@ -23,7 +23,7 @@ pub data RegisterRefusal (s : List ℕ) (u : Summary) (buf : List ℕ) : ℕ →
 abbrev pub registerOrder : List ℕ
 registerOrder = why.summary ∷ why.map ∷ why.buffer ∷ []
 
--- the state and the offset of frame n: "0 in the map, 1 absent", "then the map's offset (.. 0 if absent)"
+-- the state and the offset of frame n: 0 and what the map says, or 1 and 0 where the map has no entry of it
 pub data State (s : List ℕ) (u : Summary) (n : ℕ) : ℕ → ℕ → Type 0 where
   in-map : {o : ℕ} → FrameEntry s u n o → State s u n 0 o
   absent : ((o : ℕ) → FrameEntry s u n o → ⊥) → State s u n 1 0
@@ -40,7 +40,7 @@ pub record FrameRecord (s : List ℕ) (u : Summary) (n : ℕ) (bytes : List ℕ)
   pub state-of : State s u n state offset
   pub spelled : bytes ≡ leBytes 4 scene ++ (leBytes 4 t ++ (leBytes 4 z ++ (leBytes 4 state ++ leBytes 8 offset)))
 
--- `out` is what an accepted register leaves in `buf`: "One record per frame number n from 0 up, no header, 24 bytes", "Later bytes untouched"
+-- `out` is what an accepted register leaves in `buf`: from its first byte on a record of 24 bytes for each frame, later bytes as before
 pub record Registered (s : List ℕ) (u : Summary) (buf out : List ℕ) : Type 0 where
   pub frame : (n : ℕ) → n < frames (loopsOf u) → FrameRecord s u n (part out (24 * n) 24)
   pub later : (i : ℕ) → 24 * frames (loopsOf u) ≤ i → getD out i 0 ≡ getD buf i 0

@@ -1,4 +1,4 @@
--- Change request 2, "Planes as TIFF sheets": the refusals of a sheet that is written and of one that is read.
+-- Change request 2: the refusals of a sheet that is written and of one that is read.
 use Prim.Native.Nat.{ℕ, _+_, _<_}
 use mathlib.Core.List.{List, [], _∷_, _++_, map}
 use lib.ListN.{length}

@@ -1,5 +1,4 @@
--- What a summary has to hold, and what one holds that is returned with a refusal. Row 20: "the shape rules fail, bits are not 8, 16 or 32, a loop count is
--- not 1 to 1,000,000, loops are over three, an axis repeats, or the map range leaves the file."
+-- What a summary has to hold so that it can be used (document 01, Why a file is turned away, number 20), and what one holds that is returned with a refusal.
 use Prim.Native.Nat.{ℕ, _+_, _≤_}
 use mathlib.Core.Path.{_≡_}
 use mathlib.Core.List.{List}
@@ -23,7 +22,7 @@ pub record Sound (s : List ℕ) (u : Summary) : Type 0 where
   pub loops-distinct : Distinct (loopsOf u)
   pub map-within : u .map .start + u .map .len ≤ length s
 
--- nothing is stated of the calibration, z and its class neither
+-- no calibration is stated, and no z step
 pub record Uncalibrated (u : Summary) : Type 0 where
   pub calibration : u .calibration ≡ 0
   pub x : u .x ≡ zeroFloat

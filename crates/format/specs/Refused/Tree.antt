@@ -1,5 +1,5 @@
--- The tree call: "20, 5, 11, 4, tree", and 29 with 4 before and behind it (change request 6); so by stages. Of a tree's own refusals 18 comes before a later
--- fault, and of the others a tree has at most one.
+-- The tree call: 20, 5, 11, the chunk, the tree. The chunk has 4 before 29 and behind it (change request 6); so by stages. Of a tree's own refusals 18 comes
+-- before a later fault, and of the others a tree has at most one.
 use Prim.Native.Nat.{ℕ, _+_, _*_, _%_, _^_, _≤_, _<_}
 use mathlib.Core.Path.{_≡_}
 use mathlib.Core.Option.{some}
@@ -30,7 +30,7 @@ pub record NameData (s : List ℕ) (u : Summary) (name : List ℕ) (r : Range) :
   pub entry : NameEntry s u name offset
   pub chunk : Chunk name s offset r
 
--- "a record needs an entry and none is left": more than `room` records of the tree under this name pass
+-- 18: more than `room` records of the tree under this name pass
 pub record TableShort (s : List ℕ) (u : Summary) (name : List ℕ) (room : ℕ) : Type 0 where
   pub place : Range
   pub chunk : NameData s u name place

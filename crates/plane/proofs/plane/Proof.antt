@@ -60,12 +60,14 @@ copy-samples-requires c κs =
     let r = k .before .r .given .0 .0 in
     let i = inside (now (a .file)) (a .u) (a .scene) (a .t) (a .c) (a .z) (now (a .samples)) (found k) in
     let p = prefix (now (a .file)) (a .u) (a .scene) (a .t) (a .c) (a .z) (now (a .samples)) (found k) in
-    rw (rows-length (now (a .file)) r (now (d .data-of .result)) (d .data-of .ensures) i p) (fit (now (a .file)) (a .u) (a .scene) (a .t) (a .c) (a .z) (now (a .samples)) (found k))
+    rw (rows-length (now (a .file)) r (now (d .data-of .result)) (d .data-of .ensures) i p)
+    (fit (now (a .file)) (a .u) (a .scene) (a .t) (a .c) (a .z) (now (a .samples)) (found k))
 
 returns : tie.Need-returns
 returns c =
     let a = c .before .before .before .before .before .before .args in
-    refused-plane (now (a .file)) (a .u) (a .scene) (a .t) (a .c) (a .z) (now (a .samples)) (c .before .n .given .0 .0) (rw (c .before .n .given .1) at (c .before .before .before .frame-for .ensures))
+    refused-plane (now (a .file)) (a .u) (a .scene) (a .t) (a .c) (a .z) (now (a .samples)) (c .before .n .given .0 .0)
+    (rw (c .before .n .given .1) at (c .before .before .before .frame-for .ensures))
 
 same-length : tie.Need-same-length
 same-length c = search needs
@@ -81,7 +83,8 @@ returns-2 c =
     let f = fit (now (a .file)) (a .u) (a .scene) (a .t) (a .c) (a .z) (now (a .samples)) (found k) in
     found-plane (now (a .file)) (a .u) (a .scene) (a .t) (a .c) (a .z) (now (a .samples)) (found k)
     (c .before .before .copy-samples .ensures
-    ∙ ap (λ (l : List ℕ). over l (now (a .samples))) (plane-rows (now (a .file)) r (now (d .data-of .result)) (d .data-of .ensures) i p (a .u) (a .c) (length (now (a .samples))) f))
+    ∙ ap (λ (l : List ℕ). over l (now (a .samples)))
+    (plane-rows (now (a .file)) r (now (d .data-of .result)) (d .data-of .ensures) i p (a .u) (a .c) (length (now (a .samples))) f))
 
 pub plane-spec : {M : Type 1} → statement M
 plane-spec =

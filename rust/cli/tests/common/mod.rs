@@ -37,6 +37,26 @@ impl Folder {
         self.0.join(name).exists()
     }
 
+    /// The names of all that is in the folder, in order.
+    pub fn names(&self) -> Vec<String> {
+        let entries = fs::read_dir(&self.0).unwrap();
+        let name = |entry: std::io::Result<fs::DirEntry>| entry.unwrap().file_name();
+        let mut names: Vec<String> = entries
+            .map(|entry| name(entry).to_string_lossy().into_owned())
+            .collect();
+        names.sort();
+        names
+    }
+
+    /// The program in a shell that sets a limit first.
+    pub fn limited(&self, limit: &str, words: &[&str]) -> Command {
+        let mut command = Command::new("sh");
+        let script = format!("ulimit {limit} && exec \"$0\" \"$@\"");
+        command.args(["-c", &script, env!("CARGO_BIN_EXE_nd2")]);
+        command.args(words).current_dir(&self.0);
+        command
+    }
+
     pub fn command(&self, words: &[&str]) -> Command {
         let mut command = Command::new(env!("CARGO_BIN_EXE_nd2"));
         command.args(words).current_dir(&self.0);

@@ -80,8 +80,10 @@ loop-again c =
       omega arith,
       rw (add-one, suc-mul) (omega arith),
       same-len-mid (l .at) (l .at + 16 - l .at) (l .dst) (q .last .1 .0) (q .kept .1 .0) ∙ l .inv .2,
-      block-more s (l .dst) (q .last .1 .0) (p .args .size) 6 (p .args .x) 16 (l .k) (l .at) (l .at + 16) (p .pre .0) equal whole (omega arith) (l .inv .1) refl (q .ensures) (l .inv .3) (l .inv .4),
-      block-still s (l .dst) (q .last .1 .0) (p .args .size) 6 (p .args .x) 16 (l .k) (l .at) (l .at + 16) (p .pre .0) equal whole (omega arith) (l .inv .1) refl (q .ensures) (l .inv .4),
+      block-more s (l .dst) (q .last .1 .0) (p .args .size) 6 (p .args .x) 16 (l .k) (l .at) (l .at + 16) (p .pre .0) equal whole (omega arith)
+          (l .inv .1) refl (q .ensures) (l .inv .3) (l .inv .4),
+      block-still s (l .dst) (q .last .1 .0) (p .args .size) 6 (p .args .x) 16 (l .k) (l .at) (l .at + 16) (p .pre .0) equal whole (omega arith)
+          (l .inv .1) refl (q .ensures) (l .inv .4),
     )
 
 same-length : tie.Need-same-length Inv-loop μ-loop

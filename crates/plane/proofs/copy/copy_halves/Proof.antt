@@ -56,7 +56,7 @@ loop-again c =
     let v = c .half .ensures ∙ half-of (now (a .src)) (a .at) (t .loop .k) (s .pre .0) in (
       omega arith,
       length-set d (t .loop .k) (c .half .result) ∙ t .loop .inv .1,
-      byte-more (now (a .src)) (now (a .dst)) d (a .at) 2 (t .loop .k) (omega arith) (t .loop .inv .2) (c .half .result) (omega arith) (omega arith) v,
+      byte-more (now (a .src)) (now (a .dst)) d (a .at) 2 (t .loop .k) (c .half .result) (omega arith) (t .loop .inv .2) (omega arith) (omega arith) v,
     )
 
 same-length : tie.Need-same-length Inv-loop μ-loop

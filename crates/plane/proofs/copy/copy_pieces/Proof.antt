@@ -77,13 +77,14 @@ loop-again : tie.Need-loop-again Inv-loop μ-loop
 loop-again c =
     let t = c .before .before .before .before .before in
     let l = t .before .loop in
-    let a = t .before .before .before .before .args in (
+    let a = t .before .before .before .before .args in
+    let q = c .before .before .copy-piece in (
       omega arith,
       rw (add-one, suc-mul) (omega arith),
       rw (add-one, suc-mul) (omega arith),
-      same-len-mid (l .to) (l .to + a .size - l .to) (l .dst) (c .before .before .copy-piece .last .1 .0) (c .before .before .copy-piece .kept .1 .0) ∙ l .inv .3,
-      piece-more (now (a .src)) (a .at) (a .step) (a .size) (omega arith) (now (a .dst)) (l .dst) (c .before .before .copy-piece .last .1 .0) (l .k) (l .from) (l .to) (omega (arith, src-in t)) (l .inv .1) (l .inv .2) (l .inv .4)
-          (c .before .before .copy-piece .ensures),
+      same-len-mid (l .to) (l .to + a .size - l .to) (l .dst) (q .last .1 .0) (q .kept .1 .0) ∙ l .inv .3,
+      piece-more (now (a .src)) (a .at) (a .step) (a .size) (omega arith) (now (a .dst)) (l .dst) (q .last .1 .0) (l .k) (l .from) (l .to)
+          (omega (arith, src-in t)) (l .inv .1) (l .inv .2) (l .inv .4) (q .ensures),
     )
 
 same-length : tie.Need-same-length Inv-loop μ-loop

@@ -79,7 +79,8 @@ copy-bytes-requires c κs =
     let a = c .before .before .before .before .before .before .args in
     let l = c .before .before .before .loop in
     let done = 6 * (length (now (a .dst)) / 96 * 16) in
-    length-part (now (a .src)) done (length (now (a .src)) - done) (omega arith) ∙ (omega arith ∙ sym (length-part (l .dst) done (length (l .dst) - done) (omega arith)))
+    length-part (now (a .src)) done (length (now (a .src)) - done) (omega arith)
+    ∙ (omega arith ∙ sym (length-part (l .dst) done (length (l .dst) - done) (omega arith)))
 
 same-length : tie.Need-same-length Inv-loop μ-loop
 same-length c = omega arith
@@ -91,7 +92,8 @@ returns c =
     let size = length (now (a .dst)) / 96 * 16 in
     let all : l .x ≡ size = omega arith in
     let alike : Alike (now (a .src)) (l .dst) size 6 size = rw all at (l .inv .3) in
-    parts-all (now (a .src)) (l .dst) size (c .before .before .copy-bytes .last .1 .0) 6 (6 * size) (length (l .dst)) alike refl (omega arith) (omega arith) refl (c .before .before .copy-bytes .ensures)
+    let q = c .before .before .copy-bytes in
+    parts-all (now (a .src)) (l .dst) size (q .last .1 .0) 6 (6 * size) (length (l .dst)) alike refl (omega arith) (omega arith) refl (q .ensures)
 
 pub copy-run-spec : {M : Type 1} → statement M
 copy-run-spec =

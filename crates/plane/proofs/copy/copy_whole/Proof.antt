@@ -1,4 +1,4 @@
--- `copy_whole`: one run where the rows have nothing between them, and else row by row.
+-- `copy_whole`: one run where the rows have nothing between them; else row by row, or by turns.
 use mathlib.Core.Path.{_≡_}
 use Prim.Native.Nat.{_*_, _≤_}
 use native.Mathlib.Nat.{sub-zero}
@@ -64,6 +64,15 @@ same-length-2 c = search needs
 returns-2 : tie.Need-returns-2
 returns-2 c = search needs
 
+copy-apart-requires : tie.Need-copy-apart-requires
+copy-apart-requires c κs = search needs
+
+same-length-3 : tie.Need-same-length-3
+same-length-3 c = search needs
+
+returns-3 : tie.Need-returns-3
+returns-3 c = search needs
+
 pub copy-whole-spec : {M : Type 1} → statement M
 copy-whole-spec =
     tie.close
@@ -80,4 +89,7 @@ copy-whole-spec =
     returns
     copy-pieces-requires
     same-length-2
-    returns-2)
+    returns-2
+    copy-apart-requires
+    same-length-3
+    returns-3)

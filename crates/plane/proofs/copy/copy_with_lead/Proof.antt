@@ -5,7 +5,7 @@ use native.Mathlib.Omega.{arith}
 use lib.ListN.{length}
 use borrow.Rule.Slice.PartMut.{putMid, same-len-mid}
 use denote.Ref.{now}
-use Rattle.plane.proofs.Parts.{rest-all, lead-copied}
+use Rattle.plane.proofs.Parts.{rest-all, front-more}
 use borrow.Author.Needs.{needs}
 use Rattle.plane.proofs.copy.copy_with_lead.Statement.{statement}
 use Rattle.plane.proofs.copy.copy_with_lead.Tie as tie
@@ -74,7 +74,7 @@ returns-2 c =
     let q = b .copy-bytes2 .last .1 .0 in
     let d = putMid 0 (a .lead - 0) (now (a .dst)) q in
     let long : length (now (a .src)) ≡ length d = s .pre ∙ sym (same-len-mid 0 (a .lead - 0) (now (a .dst)) q (b .copy-bytes2 .kept .1 .0)) in
-    let first = lead-copied (now (a .src)) (now (a .dst)) q (a .lead) (e .if1 .left) (s .pre) (b .copy-bytes2 .ensures) in
+    let first = front-more (now (a .src)) (now (a .dst)) q 0 (a .lead) (omega arith) (e .if1 .left) (s .pre) refl (b .copy-bytes2 .ensures) in
     rest-all (now (a .src)) d (r .copy-run .last .1 .0) (a .lead) (length d) first (omega (arith, s .pre, e .if1 .left)) long refl (r .copy-run .ensures)
 
 pub copy-with-lead-spec : {M : Type 1} → statement M

@@ -29,10 +29,12 @@ unfolding over rows
 loop-holds c =
     let a = c .before .before .args in (omega arith, sym (zero-mul (a .stride)), sym (zero-mul (a .width * a .size)), refl, refl)
 
-src-in : (c : tie.In-loop Inv-loop μ-loop) → let a = c .before .before .before .before .args in c .before .loop .y * a .stride + a .stride ≤ a .height * a .stride
+src-in : (c : tie.In-loop Inv-loop μ-loop) → let a = c .before .before .before .before .args in
+    c .before .loop .y * a .stride + a .stride ≤ a .height * a .stride
 src-in c = let a = c .before .before .before .before .args in turn (c .before .loop .y) (a .height) (a .stride) (c .loop-test .taken)
 
-dst-in : (c : tie.In-loop Inv-loop μ-loop) → let a = c .before .before .before .before .args in c .before .loop .y * (a .width * a .size) + a .width * a .size ≤ a .height * (a .width * a .size)
+dst-in : (c : tie.In-loop Inv-loop μ-loop) → let a = c .before .before .before .before .args in
+    c .before .loop .y * (a .width * a .size) + a .width * a .size ≤ a .height * (a .width * a .size)
 dst-in c = let a = c .before .before .before .before .args in turn (c .before .loop .y) (a .height) (a .width * a .size) (c .loop-test .taken)
 
 add-e : tie.Need-add-e Inv-loop μ-loop
@@ -94,7 +96,8 @@ loop-again c =
       rw (add-one, suc-mul) (omega arith),
       rw (add-one, suc-mul) (omega arith),
       same-len-mid (l .to) (l .to + w - l .to) (l .dst) (q .last .1 .0) (q .kept .1 .0) ∙ l .inv .3,
-      row-more (now (a .src)) (a .at) (a .stride) (a .step) (a .size) (a .width) (omega arith) (omega arith) (now (a .dst)) (l .dst) (q .last .1 .0) (take (l .to + w - l .to) (drop (l .to) (l .dst))) (l .y) (l .from) (l .to) (l .from + a .stride) w (l .to + w)
+      row-more (now (a .src)) (a .at) (a .stride) (a .step) (a .size) (a .width) (omega arith) (omega arith) (now (a .dst)) (l .dst) (q .last .1 .0)
+          (take (l .to + w - l .to) (drop (l .to) (l .dst))) (l .y) (l .from) (l .to) (l .from + a .stride) w (l .to + w)
           (omega (arith, src-in t)) (l .inv .1) refl refl (l .inv .2) refl (lent t) (l .inv .4) (q .ensures),
     )
 
