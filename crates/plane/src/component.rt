@@ -1,6 +1,6 @@
 // The samples of one component, copied out of the rows of a frame; planes and sheets are made of it.
 use crate::copy::copy_whole;
-use crate::copy::gather_rows;
+use crate::gather::gather_rows;
 use format::Summary;
 ghost use mathlib.Core.Path.{_≡_};
 ghost use Prim.Native.Nat.{_/_};

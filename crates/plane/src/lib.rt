@@ -21,6 +21,7 @@ ghost use Rattle.format.specs.Sentences.{Refuses, AcceptedUnless, AtSome, Plane
 ghost use Rattle.plane.specs.Found.{frameAnswer, foundAt};
 
 pub mod copy; // rows of bytes
+pub mod gather; // samples of one component, out of rows
 pub mod component; // one component's samples, out of a frame's rows
 
 // The number of a plane that is accepted.

@@ -1,8 +1,8 @@
 -- `half`: a shift by no byte or by one.
 use borrow.Author.Needs.{needs}
 use Rattle.plane.proofs.Rows.{half-at}
-use Rattle.plane.proofs.copy.half.Statement.{statement}
-use Rattle.plane.proofs.copy.half.Tie as tie
+use Rattle.plane.proofs.gather.half.Statement.{statement}
+use Rattle.plane.proofs.gather.half.Tie as tie
 
 mul-pair : tie.Need-mul-pair
 mul-pair c = search needs

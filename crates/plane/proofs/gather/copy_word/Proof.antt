@@ -6,8 +6,8 @@ use lib.ListN.{length-set}
 use borrow.Author.Needs.{needs}
 use denote.Ref.{now}
 use Rattle.plane.proofs.Rows.{two}
-use Rattle.plane.proofs.copy.copy_word.Statement.{statement}
-use Rattle.plane.proofs.copy.copy_word.Tie as tie
+use Rattle.plane.proofs.gather.copy_word.Statement.{statement}
+use Rattle.plane.proofs.gather.copy_word.Tie as tie
 
 shared-slice-read-first : tie.Need-shared-slice-read-first
 shared-slice-read-first c = search needs

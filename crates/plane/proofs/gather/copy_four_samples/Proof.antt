@@ -2,8 +2,8 @@
 use mathlib.Core.Path.{_≡_}
 use native.Mathlib.Omega.{arith}
 use borrow.Author.Needs.{needs}
-use Rattle.plane.proofs.copy.copy_four_samples.Statement.{statement}
-use Rattle.plane.proofs.copy.copy_four_samples.Tie as tie
+use Rattle.plane.proofs.gather.copy_four_samples.Statement.{statement}
+use Rattle.plane.proofs.gather.copy_four_samples.Tie as tie
 
 copy-four-requires : tie.Need-copy-four-requires
 copy-four-requires c κs = search needs

@@ -4,8 +4,8 @@ use native.Mathlib.Omega.{arith}
 use borrow.Author.Needs.{needs}
 use denote.Ref.{now}
 use Rattle.plane.proofs.Rows.{one}
-use Rattle.plane.proofs.copy.copy_sample.Statement.{statement}
-use Rattle.plane.proofs.copy.copy_sample.Tie as tie
+use Rattle.plane.proofs.gather.copy_sample.Statement.{statement}
+use Rattle.plane.proofs.gather.copy_sample.Tie as tie
 
 shared-slice-read-dst : tie.Need-shared-slice-read-dst
 shared-slice-read-dst c = search needs

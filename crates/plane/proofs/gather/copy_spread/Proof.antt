@@ -3,8 +3,8 @@ use mathlib.Core.Path.{_≡_}
 use native.Mathlib.Nat.{mul-one}
 use native.Mathlib.Omega.{arith}
 use borrow.Author.Needs.{needs}
-use Rattle.plane.proofs.copy.copy_spread.Statement.{statement}
-use Rattle.plane.proofs.copy.copy_spread.Tie as tie
+use Rattle.plane.proofs.gather.copy_spread.Statement.{statement}
+use Rattle.plane.proofs.gather.copy_spread.Tie as tie
 
 copy-halves-requires : tie.Need-copy-halves-requires
 copy-halves-requires c κs =

@@ -6,8 +6,8 @@ use lib.ListN.{length-set}
 use borrow.Author.Needs.{needs}
 use denote.Ref.{now}
 use Rattle.plane.proofs.Rows.{four-pieces}
-use Rattle.plane.proofs.copy.copy_four.Statement.{statement}
-use Rattle.plane.proofs.copy.copy_four.Tie as tie
+use Rattle.plane.proofs.gather.copy_four.Statement.{statement}
+use Rattle.plane.proofs.gather.copy_four.Tie as tie
 
 shared-slice-read-dst : tie.Need-shared-slice-read-dst
 shared-slice-read-dst c = search needs

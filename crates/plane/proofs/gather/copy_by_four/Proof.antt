@@ -9,8 +9,8 @@ use denote.Ref.{now}
 use Rattle.format.specs.Bytes.{over}
 use Rattle.plane.specs.Pieces.{pieces}
 use Rattle.plane.proofs.Rows.{turn, turns, over-first, pieces-one, pieces-more}
-use Rattle.plane.proofs.copy.copy_by_four.Statement.{statement}
-use Rattle.plane.proofs.copy.copy_by_four.Tie as tie
+use Rattle.plane.proofs.gather.copy_by_four.Statement.{statement}
+use Rattle.plane.proofs.gather.copy_by_four.Tie as tie
 
 abbrev Inv-loop : tie.InvT-loop
 Inv-loop src dst₀ at step size count k₀ from₀ dst k from =

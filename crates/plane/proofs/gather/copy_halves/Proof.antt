@@ -7,8 +7,8 @@ use denote.Ref.{now}
 use Rattle.format.specs.Bytes.{over}
 use Rattle.plane.specs.Pieces.{pieces}
 use Rattle.plane.proofs.Rows.{byte-more, half-of}
-use Rattle.plane.proofs.copy.copy_halves.Statement.{statement}
-use Rattle.plane.proofs.copy.copy_halves.Tie as tie
+use Rattle.plane.proofs.gather.copy_halves.Statement.{statement}
+use Rattle.plane.proofs.gather.copy_halves.Tie as tie
 
 abbrev Inv-loop : tie.InvT-loop
 Inv-loop src dst₀ at count k₀ dst k = (k ≤ count) × (length dst ≡ length dst₀) × (dst ≡ over (pieces src at 2 1 k) dst₀)

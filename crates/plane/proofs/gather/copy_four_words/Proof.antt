@@ -3,8 +3,8 @@ use mathlib.Core.Path.{_∙_}
 use borrow.Author.Needs.{needs}
 use denote.Ref.{now}
 use Rattle.plane.proofs.Rows.{four-stored}
-use Rattle.plane.proofs.copy.copy_four_words.Statement.{statement}
-use Rattle.plane.proofs.copy.copy_four_words.Tie as tie
+use Rattle.plane.proofs.gather.copy_four_words.Statement.{statement}
+use Rattle.plane.proofs.gather.copy_four_words.Tie as tie
 
 copy-word-requires : tie.Need-copy-word-requires
 copy-word-requires c κs = search needs

@@ -10,8 +10,8 @@ use denote.Ref.{now}
 use Rattle.format.specs.Bytes.{over}
 use Rattle.plane.specs.Pieces.{rows}
 use Rattle.plane.proofs.Rows.{turn, length-part, row-more}
-use Rattle.plane.proofs.copy.gather_rows.Statement.{statement}
-use Rattle.plane.proofs.copy.gather_rows.Tie as tie
+use Rattle.plane.proofs.gather.gather_rows.Statement.{statement}
+use Rattle.plane.proofs.gather.gather_rows.Tie as tie
 
 abbrev Inv-loop : tie.InvT-loop
 Inv-loop src dst₀ stride at step size width height w y₀ from₀ to₀ dst y from to =
