@@ -42,6 +42,20 @@ pub fn copying(from: &[u8]) -> impl FnMut() + '_ {
     move || copied(from, &mut copy)
 }
 
+/// More bytes than caches have.
+const LARGER_THAN_CACHES: usize = 128 << 20;
+
+/// Writes so many bytes that nothing else is left in the caches.
+pub fn emptying_caches() -> impl FnMut() {
+    let mut bytes = vec![1u8; LARGER_THAN_CACHES];
+    let mut value = 0u8;
+    move || {
+        value = value.wrapping_add(1);
+        bytes.fill(value);
+        black_box(&mut bytes);
+    }
+}
+
 impl<'f> Case<'f> {
     pub fn new(file: &'f [u8], original: Option<Original>) -> Case<'f> {
         let original = original.map(|o| o.open(file).expect("the original opens it"));

@@ -1,14 +1,24 @@
 //! Maps of many entries.
 
-use crate::cases::{copying, Case};
+use crate::cases::{copying, emptying_caches, Case};
 use crate::files::{self, MapNames};
 use crate::original::Original;
 use crate::table::{Row, Target};
 use crate::timing::{race, race_after, Turns, Who};
 
-/// A further size of the maps, where that is smaller. It is passed over faster, and so more often.
+/// A further size of the maps, where that is smaller. It is passed over faster, and so more often; it may lie in the cache,
+/// and so is passed over out of it too.
 const FEWER: usize = 100_000;
 const FEWER_REPETITIONS: u32 = 4;
+
+/// What the caches have before a turn.
+#[derive(Clone, Copy, PartialEq, Eq)]
+enum Caches {
+    /// As much of the map as fits.
+    Map,
+    /// Other bytes.
+    Others,
+}
 
 /// Passing over a map may take so much of memcpy's time.
 fn targets() -> Vec<Target> {
@@ -17,14 +27,15 @@ fn targets() -> Vec<Target> {
 
 /// Maps of so many entries, and of fewer: opening, and one plane; of the frames' names also the register.
 pub fn rows(entries: usize, original: Option<Original>, repetitions: u32) -> Vec<Row> {
-    let maps = |entries, repetitions| {
+    let maps = |entries, caches, repetitions| {
         let names = [MapNames::Frames, MapNames::OneLength, MapNames::Mixed];
-        let rows = names.map(|names| of_map(entries, names, original, repetitions));
+        let rows = names.map(|names| of_map(entries, names, caches, original, repetitions));
         rows.into_iter().flatten()
     };
-    let mut rows: Vec<Row> = maps(entries, repetitions).collect();
+    let mut rows: Vec<Row> = maps(entries, Caches::Map, repetitions).collect();
     if FEWER < entries {
-        rows.extend(maps(FEWER, FEWER_REPETITIONS * repetitions));
+        rows.extend(maps(FEWER, Caches::Map, FEWER_REPETITIONS * repetitions));
+        rows.extend(maps(FEWER, Caches::Others, repetitions));
     }
     rows
 }
@@ -40,6 +51,7 @@ fn label(names: MapNames) -> &'static str {
 fn of_map(
     entries: usize,
     names: MapNames,
+    caches: Caches,
     original: Option<Original>,
     repetitions: u32,
 ) -> Vec<Row> {
@@ -53,19 +65,22 @@ fn of_map(
         targets,
     };
     let passing = |what: &str, turns: Turns| {
-        let best = race_after(copying(map), repetitions, turns);
-        row(
-            format!("{what}, {entries} entries, {}", label(names)),
-            best,
-            targets(),
-        )
+        let (best, out) = match caches {
+            Caches::Map => (race_after(copying(map), repetitions, turns), ""),
+            Caches::Others => (
+                race_after(emptying_caches(), repetitions, turns),
+                ", out of the cache",
+            ),
+        };
+        let what = format!("{what}, {entries} entries, {}{out}", label(names));
+        row(what, best, targets())
     };
     let last = [1, summary.times() - 1, 0, 0];
     let mut rows = vec![
         passing("open a map", case.open(original)),
         passing("plane of 4 x 4", case.plane(last, map)),
     ];
-    if names == MapNames::Frames {
+    if names == MapNames::Frames && caches == Caches::Map {
         let what = format!("register of {} frames", summary.frames());
         rows.push(row(what, race(repetitions, 1, case.register()), vec![]));
     }
