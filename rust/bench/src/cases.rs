@@ -45,14 +45,15 @@ pub fn copying(from: &[u8]) -> impl FnMut() + '_ {
 /// More bytes than caches have.
 const LARGER_THAN_CACHES: usize = 128 << 20;
 
-/// Writes so many bytes that nothing else is left in the caches.
+/// A byte of each line of the caches.
+const LINE: usize = 64;
+
+/// Reads so many bytes that nothing else is left in the caches. Writing them might pass the caches by.
 pub fn emptying_caches() -> impl FnMut() {
-    let mut bytes = vec![1u8; LARGER_THAN_CACHES];
-    let mut value = 0u8;
+    let bytes = vec![1u8; LARGER_THAN_CACHES];
     move || {
-        value = value.wrapping_add(1);
-        bytes.fill(value);
-        black_box(&mut bytes);
+        let lines = black_box(&bytes).iter().step_by(LINE);
+        black_box(lines.map(|byte| u64::from(*byte)).sum::<u64>());
     }
 }
 
