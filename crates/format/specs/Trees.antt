@@ -1,6 +1,7 @@
 -- Document 01, Trees: a record has a type, a name and a value, and a level is a record whose value holds further ones.
 -- `read` gives a tree's entries in file order and how it ends. It knows of no table: `within` says what a table of some entries makes of it.
-use Rattle.std.specs.Prelude.{ℕ, zero, suc, ◌+◌, ◌-◌, ◌*◌, ◌/◌, Bool, true, false, not, ◌&&◌, ◌||◌, cond, List, [], ◌∷◌, ◌++◌, length, take, get_or, leb, ltb, eqb}
+use Rattle.std.specs.Prelude.{ℕ, zero, suc, ◌+◌, ◌-◌, ◌*◌, ◌/◌, Bool, true, false, not, ◌&&◌, ◌||◌, cond}
+use Rattle.std.specs.Prelude.{List, [], ◌∷◌, ◌++◌, length, take, get_or, leb, ltb, eqb}
 use Rattle.std.proofs.Math.Option.{Option, none, some}
 use Rattle.format.specs.Bytes.{le_at, le_bytes}
 use Rattle.format.specs.Answer.{Answer, given, refused, and_then}

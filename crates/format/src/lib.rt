@@ -1,4 +1,6 @@
 // The types that every crate of the reader shares. What they have to hold is stated in specs/, document 01 as definitions.
+#![tactic(auto)]
+
 ghost use Rattle.std.specs.Prelude.{◌≡◌};
 ghost use Rattle.format.specs.Loops.{axis_number};
 

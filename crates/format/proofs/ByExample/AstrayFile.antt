@@ -136,7 +136,8 @@ pub record AstrayOpened : Type 0 where
       ≡ given (framed (named "ImageAttributesLV!" "ImageMetadataLV!" "ImageCalibrationLV|1!" packed_data))
 
 pub astray_opened : AstrayOpened
-unfolding framed named opened_as ascii le_bytes end_mark map_name opened and_then refuse_if le_at same part begins chunk_data map_entries or_refuse offset_of within tree_in
+unfolding framed named opened_as ascii le_bytes end_mark map_name opened and_then refuse_if le_at
+    same part begins chunk_data map_entries or_refuse offset_of within tree_in
     attributes as_level field slots_of name_of units lossy bind unsigned signed below32 uncompressed bad_bits bad_shape put_named put_unnamed elements
     slot_value value_at experiment said loop_params or_zero child_levels append judge has_axis summary_of calibration z_step z_float unstated
 astray_opened = record { attributes_astray = refl; experiment_astray = refl; calibration_astray = refl; packed_astray = refl }
@@ -157,6 +158,7 @@ pub record AstrayTrees : Type 0 where
       ≡ record { number = 0; table = replicate 96 0; row = empty_channel ∷ empty_channel ∷ [] }
 
 pub astray_trees : AstrayTrees
-unfolding framed trees ascii le_bytes end_mark map_name tree_call picometres_call channels_call refuse_if bad_summary and_then map_entries part same begins le_at or_refuse
+unfolding framed trees ascii le_bytes end_mark map_name tree_call picometres_call channels_call refuse_if
+    bad_summary and_then map_entries part same begins le_at or_refuse
     offset_of chunk_data named_tree empty_channel
 astray_trees = record { tree = refl; size = refl; channels = refl }

@@ -70,5 +70,6 @@ pub tiny_joined : Joined tiny tiny_summary
 tiny_joined = ((opened_iff_joined tiny 7 tiny_summary).0 tiny_opened).0
 
 pub tiny_plane : plane_call tiny tiny_summary 0 0 0 0 (1 ∷ 1 ∷ 1 ∷ []) ≡ record { number = 0; buffer = 7 ∷ 9 ∷ 1 ∷ [] }
-unfolding tiny tiny_summary ascii le_bytes end_mark map_name plane_call refuse_if bad_summary count_of and_then map_entries part same or_refuse offset_of seq_index chunk_data
+unfolding tiny tiny_summary ascii le_bytes end_mark map_name plane_call refuse_if bad_summary count_of
+    and_then map_entries part same or_refuse offset_of seq_index chunk_data
 tiny_plane = refl

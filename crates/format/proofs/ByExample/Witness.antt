@@ -146,7 +146,8 @@ pub record PairPlanes : Type 0 where
   pub no_third_point : plane_at 2 0 0 ≡ record { number = 21; buffer = lent }
 
 pub pair_planes : PairPlanes
-unfolding pair pair_summary ascii le_bytes end_mark map_name plane_call refuse_if bad_summary count_of and_then map_entries part same or_refuse offset_of seq_index chunk_data
+unfolding pair pair_summary ascii le_bytes end_mark map_name plane_call refuse_if bad_summary count_of
+    and_then map_entries part same or_refuse offset_of seq_index chunk_data
 pair_planes = record { first = refl; other_point = refl; other_time = refl; all_other = refl; no_third_point = refl }
 
 -- a record of the register: scene, t, z 0, in the map, and the chunk's place
@@ -157,7 +158,8 @@ framed scene t place = le_bytes 4 scene ++ le_bytes 4 t ++ le_bytes 4 0 ++ le_by
 pub pair_register :
     register_call pair pair_summary (replicate 97 77)
     ≡ record { number = 0; buffer = framed 0 0 1731 ++ framed 1 0 1672 ++ framed 0 1 1613 ++ framed 1 1 1554 ++ 77 ∷ [] }
-unfolding pair pair_summary ascii le_bytes end_mark map_name register_call refuse_if bad_summary and_then map_entries part same le_at offset_of index_at frames frame_name
+unfolding pair pair_summary ascii le_bytes end_mark map_name register_call refuse_if bad_summary and_then
+    map_entries part same le_at offset_of index_at frames frame_name
 pair_register = refl
 
 abbrev stale : Channel

@@ -120,7 +120,8 @@ module _ (s : List ℕ) (u : Summary) (scene t c z : ℕ) where
   entry_passes o x n (no_frame_is f) = f o x
 
   -- where the map has the frame's entry at o: its chunk, and the chunk's length
-  module _ (es : List MapEntry) (e : map_entries (map_of s u) ≡ given es) (l : seq < 10 ^ 20) (o : ℕ) (q : offset_of (map_of s u) (frame_name seq) es ≡ some o) where
+  module _ (es : List MapEntry) (e : map_entries (map_of s u) ≡ given es) (l : seq < 10 ^ 20)
+      (o : ℕ) (q : offset_of (map_of s u) (frame_name seq) es ≡ some o) where
     says_chunk : (a : ChunkStage) (n : ℕ) → F (chunk a) n → ChunkRefusal (frame_name seq) s o a n
     says_chunk a n (no_chunk {o = k} x r) = refused-frame s u es e seq l o q k n a x r
 

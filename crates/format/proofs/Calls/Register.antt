@@ -191,7 +191,8 @@ module _ (s : List ℕ) (u : Summary) (g : Sound s u) (es : List MapEntry) (e : 
       digits = let k = frames_digits s u g in omega arith
 
       written : (state offset : ℕ) → State s u n state offset
-          → FrameRecord s u n (le_bytes 4 (index_at P n ls) ++ le_bytes 4 (index_at T n ls) ++ le_bytes 4 (index_at Z n ls) ++ (le_bytes 4 state ++ le_bytes 8 offset))
+          → FrameRecord s u n (le_bytes 4 (index_at P n ls) ++ le_bytes 4 (index_at T n ls) ++ le_bytes 4 (index_at Z n ls)
+          ++ (le_bytes 4 state ++ le_bytes 8 offset))
       written state offset x =
           let (w, q) = number_triple ls n g.loops_counted g.loops_distinct h in
           record {
@@ -215,7 +216,8 @@ module _ (s : List ℕ) (u : Summary) (buf : List ℕ) where
   abbrev all : List MapEntry → List ℕ
   all es = register_from (frames (loops_of u)) (map_of s u) es (loops_of u) 0
 
-  written : (es : List MapEntry) → Sound s u → map_entries (map_of s u) ≡ given es → 24 * frames (loops_of u) ≤ length buf → Registered s u buf (over (all es) buf)
+  written : (es : List MapEntry) → Sound s u → map_entries (map_of s u) ≡ given es → 24 * frames (loops_of u) ≤ length buf
+      → Registered s u buf (over (all es) buf)
   unfolding over
   written es g f room =
       let k = frames (loops_of u) in

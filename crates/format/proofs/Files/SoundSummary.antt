@@ -66,7 +66,7 @@ joined_sound s u x =
     record {
       bits = rw y.bits x.attributes_of_is.bits_known;
       shape = rw shape x.attributes_of_is.shape;
-      plane_most = rw shape x.plane_most;
+      plane_most = rw (y.width, y.height, y.bits) x.plane_most;
       loops_most = rw y.depth (distinct_three x.loops lo.distinct);
       loops_counted = rw y.loops_used all_counted;
       loops_distinct = rw y.loops_used lo.distinct;

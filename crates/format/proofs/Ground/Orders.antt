@@ -88,6 +88,7 @@ not_in k ns e i = all_in i (all_by {Q = λ n. k ≡ n → ⊥} (λ n. not (eqb k
 
 module _ {P : ℕ → Type 0} where
   first_none : {ns : List ℕ} {n : ℕ} → First P ns n → All NotZero ns → n ≡ 0 → (k : ℕ) → In k ns → P k → ⊥
+  first_none accepted qs e k i p = elim i [ ]
   first_none (first {n = n} h) (more q qs) e k i p = omega arith
   first_none (passed f r) (more q qs) e k here p = f p
   first_none (passed f r) (more q qs) e k (behind i) p = first_none r qs e k i p

@@ -99,6 +99,7 @@ module _ {S : Type 0} {P : S → ℕ → Type 0} where
   accepted_at f r = (λ e k p. no_stage r e p.0 k (f p.0 k p.1).0 p.1, λ g. none_refuses r λ a k p. g k (a, p))
     where
       no_stage : {stages : List S} {n : ℕ} → FirstAt P stages n → n ≡ 0 → (a : S) (k : ℕ) → In a stages → P a k → ⊥
+      no_stage accepted e a k i p = elim i [ ]
       no_stage (first {a = b} {n = m} h) e a k i p = let l = (f b m h).1 in omega arith
       no_stage (passed g r) e a k here p = g k p
       no_stage (passed g r) e a k (behind i) p = no_stage r e a k i p

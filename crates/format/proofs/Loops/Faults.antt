@@ -19,7 +19,7 @@ use Rattle.format.specs.Refusals as why
 use Rattle.format.specs.Trees.{most_depth}
 use Rattle.format.specs.Values.{level}
 use Rattle.format.specs.Loops.{Built, append, walk_all, walk_one, walk, axis_of, has_axis, judge}
-use Rattle.format.specs.Grammar.Lists.{All, more}
+use Rattle.format.specs.Grammar.Lists.{All, over, more}
 use Rattle.format.specs.Grammar.Values.{Field}
 use Rattle.format.specs.Grammar.Loops.{LoopAt, Below, Walks, done, stops, spectral, appends, Free}
 use Rattle.format.specs.Refused.Loops.{type_negative, type_other, count_over, WalkFaults, here, below, behind_stop, behind_loop, Misjudged}
@@ -87,6 +87,8 @@ module _ (s : List ℕ) (es : List Entry) (D : ℕ → ℕ) (R : Ranked D 0 es) 
   faults_walk : (left : ℕ) (is : List ℕ) (k : ℕ) → All (Fine D left) is → WalkFaults s es is k → (n : ℕ) (bs : List Built)
       → walk_all (λ i. walk left s es i n) is bs ≡ refused k
   unfolding walk_all walk walk_one and_then
+  faults_walk zero is k over x n bs = elim x [ ]
+  faults_walk (suc m) is k over x n bs = elim x [ ]
   faults_walk zero is k (more f a) (here x) n bs = absurd (not_deepest f)
   faults_walk (suc m) is k (more f a) (here {i = i} x) n bs = rw (unfit_said s es M i k x) refl
   faults_walk zero is k (more f a) (below x b q) n bs = absurd (not_deepest f)

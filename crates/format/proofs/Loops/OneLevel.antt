@@ -135,7 +135,7 @@ module _ (s : List ℕ) (es : List Entry) (M : Means s es) where
       go none q e = absurd (omega arith)
       go (some v) q e =
           let f = (field_in_is s es M p).holds v q in
-          record { value = v; there = f; size = rw e at (M.type_size f.place v f.value) }
+          record { value = v; there = f; size = rw e at (M.size_of_is f.place v f.value) }
 
   in_points : (p n : ℕ) → Points s es p n → size_of s es (field_in s es p (ascii "Points")) ≡ n
   unfolding ascii

@@ -99,6 +99,7 @@ step_read more room m at es src e = go (through_mark (drop at m)) refl e
         → entry_then more m at (suc k) b ≡ given es → Entries m at es × (length es ≤ room)
     inner more room k true src n q e = rw (← given_inj e) (ended k n (same_true _ _ q), omega arith)
     inner none room k false src n q e = absurd (refused≢given e)
+    inner (some f) zero k false src n q e = elim src [ ]
     inner (some f) (suc room) k false (free g) n q e =
         let (l, e₁) = refuse_if_given (ltb (length m) (at + suc k + 16)) 5 _ e in
         let (es₂, e₂, e₃) = and_then_given (f (at + suc k + 16)) _ e₁ in

@@ -154,6 +154,7 @@ module _ (v : Value) where
 
       numbered : (v : Value) (n : ℕ) → Number v (pos n) → 0 < n
           → (y : Float) × (size_of v ≡ some y) × (picometres y ≡ in_u64 (pos (closest (n * 1_000_000) 1)))
+      numbered v n unset N = elim N [ ]
       numbered v n set N = unfold above_zero float in let (p, q) = stored_size 1 N in (of_int binary64 (pos 1), rw p refl, q)
       numbered v n stored N = unfold above_zero float in let (p, q) = stored_size n N in (of_int binary64 (pos n), rw p refl, q)
       numbered v n (of_double (plus h)) N = measured _ n 1 (lit< tt) N h

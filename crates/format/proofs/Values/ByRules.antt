@@ -335,7 +335,8 @@ module _ (s : List ℕ) (es : List Entry) (D : ℕ → ℕ) (R : Ranked D 0 es) 
   list_levels : (js is : List ℕ) → Levels (ValueOf s es) js is → levels_of s es js ≡ is
   unfolding levels_of
   list_levels js is Levels.none = refl
-  list_levels js is (Levels.one {i = i} {j = j} {is = ms} {js = ks} d t) = rw (list_levels ks ms t) (level_added (value_at s es j) i ms (of_value j (level i) d))
+  list_levels js is (Levels.one {i = i} {j = j} {is = ms} {js = ks} d t) =
+      rw (list_levels ks ms t) (level_added (value_at s es j) i ms (of_value j (level i) d))
   list_levels js is (Levels.other {j = j} {v = v} {is = ms} {js = ks} d n t) = rw (list_levels ks ms t, of_value j v d) (other_added v ms n)
 
   levels_slots : (p : ℕ) (js : List ℕ) (r : List Slot) → Slots (Bears s es p) js r → Levels (PlaceValue s es p) js (levels_in s es r)

@@ -270,6 +270,7 @@ module _ (B : List ℕ → ℕ → Type 0) where
 
   -- the slot of a name stands at the name's place
   pub holds_place : {n : List ℕ} {js : List ℕ} {r : List Slot} → Slots B js r → Holds n r → (j : ℕ) × In j js × First B n j
+  holds_place empty h = elim h [ ]
   holds_place (slot {j} {x = x} a t) (first e) = (j, here, rw e at (slot_first a))
   holds_place (slot a t) (later h) = let (j, x, f) = holds_place t h in (j, behind x, f)
 
