@@ -1,4 +1,6 @@
 // A frame's attributes: the five numbers of SLxImageAttributes, and the rules of sizes, over any 64-bit numbers.
+#![tactic(auto)]
+
 ghost use Rattle.std.specs.Prelude.{◌≡◌, ◌*◌, ◌≤◌, ltb};
 ghost use Rattle.format.specs.Bytes.{most64};
 ghost use Rattle.format.specs.Numbers.{below32};
@@ -13,7 +15,7 @@ use lookup::level::{get_i64, get_level, get_u64};
 use number::{Integer, Natural};
 
 // The attributes, or why they are refused.
-#[derive(Drop)]
+#[derive(Clone, Copy)]
 pub enum Parsed {
     Is(Attributes),
     Refused(u32),

@@ -1,4 +1,6 @@
 // The border call: a program in another language opens a file and reads a plane of it in one call.
+#![tactic(auto)]
+
 ghost use Rattle.std.specs.Prelude.{◌≡◌, length};
 ghost use Rattle.format.specs.Bytes.{zeros};
 ghost use Rattle.format.specs.Trees.{room_in};

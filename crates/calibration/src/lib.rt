@@ -1,4 +1,6 @@
 // The calibration: the pixel size that a tree states, with the z step of an experiment.
+#![tactic(auto)]
+
 ghost use Rattle.std.specs.Prelude.{◌≡◌, cond, ◌<◌, eqb};
 ghost use Rattle.std.proofs.Math.Option.{none, some};
 ghost use Rattle.format.specs.Refusals as why;

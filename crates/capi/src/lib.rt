@@ -1,4 +1,6 @@
 // The C interface: every call with plain numbers and slices of bytes, in which summaries and channel records stand too. include/nd2.h declares it.
+#![tactic(auto)]
+
 ghost use Rattle.std.specs.Prelude.{◌≡◌, ◌*◌, ◌/◌, ◌≤◌, length};
 ghost use Rattle.std.proofs.Math.Option.{some};
 ghost use Rattle.format.specs.Bytes.{ascii, zeros, over};

@@ -1,4 +1,6 @@
 // The channels call: a record for each component, by the planes that cover them, after every refusal in order.
+#![tactic(auto)]
+
 ghost use Rattle.std.specs.Prelude.{◌≡◌, List, length, get_or};
 ghost use Rattle.format.specs.Bytes.{ascii, zeros};
 ghost use Rattle.format.specs.Trees.{room_in};
@@ -28,14 +30,14 @@ mod record; // the record of one plane
 pub mod planes; // a walk over the components
 
 // The number of a call that is accepted, and the plane records; else the number of a refusal, and no records.
-#[derive(Drop)]
+#[derive(Clone, Copy)]
 pub struct Prepared {
     pub number: u32,
     pub planes: Planes,
 }
 
 // One record of a row, and the call's number.
-#[derive(Drop)]
+#[derive(Clone, Copy)]
 pub struct OneChannel {
     pub number: u32,
     pub channel: Channel,

@@ -13,7 +13,7 @@ use lookup::{ClxValue, Field, Found, Next, Turn};
 
 // The components that a walk has before it: the next one's record, to how many more that record goes, and where the walk stands after these, with so many
 // components left at the most. The table has `used` entries.
-#[derive(Drop)]
+#[derive(Clone, Copy)]
 pub struct Planes {
     pub channel: Channel,
     pub again: u64,

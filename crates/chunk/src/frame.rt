@@ -9,7 +9,7 @@ use super::map::{Lookup, look_up};
 use crate::{ChunkData, chunk_data};
 
 // A name at the end of an array: `name[from..]`.
-#[derive(Drop)]
+#[derive(Clone, Copy)]
 pub struct Name {
     pub name: [u8; 40],
     pub from: usize,

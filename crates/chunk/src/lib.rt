@@ -1,4 +1,6 @@
 // Chunks of an ND2 file: a chunk's data, and where the map's data is.
+#![tactic(auto)]
+
 ghost use Rattle.std.specs.Prelude.{◌≡◌, ℕ, ◌+◌, ◌≤◌, length};
 ghost use Rattle.format.specs.Bytes.{part};
 ghost use Rattle.format.specs.Chunks.{chunk_data};
@@ -18,7 +20,7 @@ const ND2_CHUNK_MAGIC: u64 = 0x0ABECEDA;
 const JP2_MAGIC: u64 = 0x0C000000;
 
 // A chunk's data in its file.
-#[derive(Drop)]
+#[derive(Clone, Copy)]
 pub enum ChunkData {
     Data(Range),
     // Refusal 4.
@@ -72,7 +74,7 @@ pub fn data_of(file: &[u8], start: u64, len: u64) -> &[u8]
 }
 
 // The map's data in its file, or the number of a refusal.
-#[derive(Drop)]
+#[derive(Clone, Copy)]
 pub enum MapPlace {
     Place(Range),
     Refused(u32),

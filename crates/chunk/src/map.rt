@@ -84,7 +84,7 @@ fn skip_clear(s: &[u8], at: usize) -> usize
 }
 
 // A number of bytes, or that there is no '!'.
-#[derive(Drop)]
+#[derive(Clone, Copy)]
 pub enum Found {
     Through(usize),
     Nothing,
@@ -109,7 +109,7 @@ pub fn through_mark(s: &[u8], at: usize) -> Found
 const MAX_MAP_ENTRIES: u64 = 2_000_000;
 
 // What stands next in the map's data.
-#[derive(Drop)]
+#[derive(Clone, Copy)]
 pub enum Next {
     // An entry whose name has this many bytes.
     Named(usize),
@@ -140,7 +140,7 @@ pub fn next_entry(map: &[u8], at: usize, entries: u64) -> Next
 }
 
 // What the map has under a name.
-#[derive(Drop)]
+#[derive(Clone, Copy)]
 pub enum Lookup {
     // The last entry's offset.
     At(u64),
@@ -172,7 +172,7 @@ pub fn look_up(map: &[u8], name: &[u8]) -> Lookup
 }
 
 // What the map has under three names.
-#[derive(Drop)]
+#[derive(Clone, Copy)]
 pub struct Three {
     pub a: Lookup,
     pub b: Lookup,

@@ -1,4 +1,6 @@
 // A cursor that carries a chunk's slice and the place in it, over a function that takes a plain slice and a place.
+#![tactic(auto)]
+
 ghost use Rattle.std.specs.Prelude.{◌≡◌, length};
 ghost use Rattle.cursor.specs.Words.{to, word_of, word_at, GoodWord};
 ghost use Rattle.chunk_cursor.specs.Places.{bytes_of, part_of, place_after, start_of, start_by, start_at};
@@ -6,7 +8,7 @@ ghost use Rattle.chunk_cursor.specs.Places.{bytes_of, part_of, place_after, star
 use cursor::{Cursor, Word};
 
 // How many bytes a number has.
-#[derive(Drop)]
+#[derive(Clone, Copy)]
 pub enum Width {
     One,
     Two,
@@ -43,7 +45,7 @@ pub fn place_after(at: usize, r: Word) -> usize
 }
 
 // A chunk's slice, and the place in it.
-#[derive(Drop)]
+#[derive(Clone, Copy)]
 pub struct ChunkCursor<'a> {
     pub slice: &'a [u8],
     pub at: usize,
@@ -102,7 +104,7 @@ impl<'a> ChunkCursor<'a> {
 }
 
 // The first two bytes of a record, its type and how many units its name has, and the cursor at the name; or too few bytes for a record.
-#[derive(Drop)]
+#[derive(Clone, Copy)]
 pub enum Start {
     Begun(u64, u64, Cursor),
     End,

@@ -1,4 +1,6 @@
 // Little-endian numbers in lent bytes, read and written, and the by-value cursor: a place in a slice and the end of the part that is read.
+#![tactic(auto)]
+
 ghost use Rattle.std.specs.Prelude.{◌≡◌, ◌+◌, ◌^◌, ◌≤◌, ◌<◌, length};
 ghost use Rattle.std.proofs.lemmas.List.Edits.{sets};
 ghost use Rattle.format.specs.Bytes.{le_at, le_bytes, zeros};
@@ -80,14 +82,14 @@ pub fn clear(d: &mut [u8])
 }
 
 // A place in a slice, and the end of the part that is read.
-#[derive(Drop)]
+#[derive(Clone, Copy)]
 pub struct Cursor {
     pub at: usize,
     pub end: usize,
 }
 
 // A number with the cursor after it, or too few bytes for one.
-#[derive(Drop)]
+#[derive(Clone, Copy)]
 pub enum Word {
     Got(u64, Cursor),
     Cut,

@@ -12,7 +12,7 @@ use format::{clx_type, refusal};
 pub const MAX_CLX_ITEMS: u64 = 10000000;
 
 // What is kept of a record's head: its type, the place of its first byte, and how many units of its name are kept.
-#[derive(Drop)]
+#[derive(Clone, Copy)]
 pub struct Name {
     pub kind: u64,
     pub start: usize,
@@ -20,7 +20,7 @@ pub struct Name {
 }
 
 // The head of a record, with the cursor at its value; or a fault; or too few bytes for a record.
-#[derive(Drop)]
+#[derive(Clone, Copy)]
 pub enum Head {
     Named(Name, Cursor),
     Bad(u32),
@@ -28,21 +28,21 @@ pub enum Head {
 }
 
 // A value that is no level: its place, how many bytes it has, and the cursor after it; or a fault.
-#[derive(Drop)]
+#[derive(Clone, Copy)]
 pub enum Leaf {
     Value(usize, usize, Cursor),
     Wrong(u32),
 }
 
 // A level: how many items it says, the part of its children, and the cursor after that part; or a fault.
-#[derive(Drop)]
+#[derive(Clone, Copy)]
 pub enum Level {
     Inner(usize, Cursor, Cursor),
     Unfit(u32),
 }
 
 // The cursor after bytes that are passed over, or too few of them.
-#[derive(Drop)]
+#[derive(Clone, Copy)]
 pub enum Skip {
     Past(Cursor),
     Short,

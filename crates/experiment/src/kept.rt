@@ -12,7 +12,7 @@ const CUSTOM: u64 = 7;
 // The appended loops: `depth` of them are kept, outermost first, the other places are Axis::T with count 0. `kind` is the last one's
 // type, and `least` one more than its nesting, 0 where there is none: from that nesting on a loop is appended. `verdict` is 0, or what is
 // refused once the walk is over.
-#[derive(Drop)]
+#[derive(Clone, Copy)]
 pub struct Kept {
     pub loops: [Loop; 3],
     pub depth: u64,

@@ -1,4 +1,6 @@
 // The loops of an experiment: its tree is walked, and each loop that is appended is judged.
+#![tactic(auto)]
+
 ghost use Rattle.std.specs.Prelude.{◌≡◌, cond, List, suc, ◌+◌, ◌≤◌, ◌<◌, eqb};
 ghost use Rattle.format.specs.Answer.{refused};
 ghost use Rattle.format.specs.Loops.{Built, append, walk, walk_all, experiment};
@@ -22,14 +24,14 @@ use lookup::{Next, Turn};
 pub const MAX_EXP_DEPTH: u64 = 64;
 
 // Where a walk has come to: the number of a refusal, 0 where there is none, and the loops that are kept.
-#[derive(Drop)]
+#[derive(Clone, Copy)]
 struct Walked {
     pub number: u32,
     pub kept: Kept,
 }
 
 // The loops of an experiment, outermost first, of which `depth` are used, with number 0; or the number of a refusal, with no loop.
-#[derive(Drop)]
+#[derive(Clone, Copy)]
 pub struct Experiment {
     pub number: u32,
     pub loops: [Loop; 3],

@@ -29,7 +29,7 @@ const XY_POS: u64 = 2;
 pub const SPECT: u64 = 6;
 
 // No loop; a refusal; or a loop of a type and a count.
-#[derive(Drop)]
+#[derive(Clone, Copy)]
 pub enum Single {
     Nothing,
     Wrong(u32),

@@ -8,14 +8,14 @@ pub mod clx_type;
 pub mod refusal;
 
 // A part of a file: its first byte's position and its length.
-#[derive(Drop)]
+#[derive(Clone, Copy)]
 pub struct Range {
     pub start: u64,
     pub len: u64,
 }
 
 // An axis that a loop runs over: time, focus, points.
-#[derive(Drop)]
+#[derive(Clone, Copy)]
 pub enum Axis {
     T,
     Z,
@@ -34,14 +34,14 @@ pub fn axis_number(a: Axis) -> u64
 }
 
 // One loop of an experiment.
-#[derive(Drop)]
+#[derive(Clone, Copy)]
 pub struct Loop {
     pub axis: Axis,
     pub count: u64,
 }
 
 // The sizes of a frame. A row has width × components samples, and `stride` bytes ("row bytes").
-#[derive(Drop)]
+#[derive(Clone, Copy)]
 pub struct Attributes {
     pub width: u64,
     pub stride: u64,
@@ -51,7 +51,7 @@ pub struct Attributes {
 }
 
 // What a calibration gives. State: 0 nothing is stated, 1 a size is, 2 its tree is packed. Class of the z step: 0 no step, 1 used, 2 too small, 3 too large.
-#[derive(Drop)]
+#[derive(Clone, Copy)]
 pub struct Calibration {
     pub state: u64,
     pub size: f32,
@@ -60,7 +60,7 @@ pub struct Calibration {
 }
 
 // What opening a file tells of it. Of `loops`, the outermost first, `depth` are used; the others are Axis::T with count 0.
-#[derive(Drop)]
+#[derive(Clone, Copy)]
 pub struct Summary {
     pub loops: [Loop; 3],
     pub depth: u64,
@@ -79,7 +79,7 @@ pub struct Summary {
 
 // One entry of the table: a record's type, the position of its name, the name's units that are kept, the position of its value,
 // the value's bytes, and its parent's number plus one, 0 for the outermost record. Positions are those in the file.
-#[derive(Drop)]
+#[derive(Clone, Copy)]
 pub struct Entry {
     pub kind: u64,
     pub name: u64,
@@ -90,7 +90,7 @@ pub struct Entry {
 }
 
 // One channel: whether it has a name, the name's position and units; whether it has a colour, and that.
-#[derive(Drop)]
+#[derive(Clone, Copy)]
 pub struct Channel {
     pub named: u64,
     pub name: u64,
@@ -102,7 +102,7 @@ pub struct Channel {
 }
 
 // What comparing two names tells: whether they are the same, and how many units were compared.
-#[derive(Drop)]
+#[derive(Clone, Copy)]
 pub struct Comparison {
     pub same: bool,
     pub units: usize,

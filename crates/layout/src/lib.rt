@@ -1,4 +1,6 @@
 // Summaries and channel records as lent bytes, so that they cross a border of byte slices.
+#![tactic(auto)]
+
 ghost use Rattle.std.specs.Prelude.{◌≡◌, ℕ, ◌+◌, ◌*◌, ◌^◌, ◌≤◌, ◌<◌, length, get_or};
 ghost use Rattle.std.proofs.Math.Option.{some};
 ghost use Rattle.std.proofs.lemmas.List.Edits.{sets};
@@ -19,7 +21,7 @@ pub const SUMMARY_BYTES: usize = 144;
 pub const CHANNEL_BYTES: usize = 56;
 
 // A summary that was read from bytes; it says nothing where they are not of the layout.
-#[derive(Drop)]
+#[derive(Clone, Copy)]
 pub struct Laid {
     pub ok: bool,
     pub summary: Summary,

@@ -1,6 +1,8 @@
 // Lookups in the table of a tree's entries, read in place. A level is named by its entry's number plus one, as its children name it, and
 // the whole tree by 0. Entries stand in file order, so what lies below a level is one run of entries, and a lookup in the level
 // looks at that run alone.
+#![tactic(auto)]
+
 
 pub mod child;
 pub mod entry;
@@ -13,7 +15,7 @@ pub mod place;
 pub mod value;
 
 // An entry that a search found.
-#[derive(Drop)]
+#[derive(Clone, Copy)]
 pub enum Found {
     At(usize),
     Nothing,
@@ -21,7 +23,7 @@ pub enum Found {
 
 // A value, by its kind. Below(n) is the whole number -1 - n; Text is a place in the file and a count of units, Bytes a place and a
 // count of bytes, Level the number of its entry, and List the number of the entry whose children are its elements.
-#[derive(Drop)]
+#[derive(Clone, Copy)]
 pub enum ClxValue {
     Flag(bool),
     Whole(u64),
@@ -34,7 +36,7 @@ pub enum ClxValue {
 }
 
 // The value of a name in a level.
-#[derive(Drop)]
+#[derive(Clone, Copy)]
 pub enum Field {
     Is(ClxValue),
     Absent,
@@ -42,7 +44,7 @@ pub enum Field {
 
 // What is known of the names in a level, which fall into parts: bit k of `clean` says that in part k no name comes twice. `first` is the
 // first child without a name.
-#[derive(Drop)]
+#[derive(Clone, Copy)]
 pub struct Known {
     pub parts: u64,
     pub clean: u64,
@@ -50,7 +52,7 @@ pub struct Known {
 }
 
 // Where a walk over child levels stands.
-#[derive(Drop)]
+#[derive(Clone, Copy)]
 pub enum Turn {
     // in a level whose run ends at `end`: at the places from entry `at` on
     Places {
@@ -69,7 +71,7 @@ pub enum Turn {
 }
 
 // The next child level, and where the walk stands after it.
-#[derive(Drop)]
+#[derive(Clone, Copy)]
 pub enum Next {
     Child(usize, Turn),
     End,

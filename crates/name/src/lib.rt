@@ -1,5 +1,7 @@
 // UTF-16 names in a file compared, a lone surrogate as U+FFFD. A comparison goes no further than to the first difference and says how many units it took;
 // names of unequal lengths are told apart with none.
+#![tactic(auto)]
+
 ghost use Rattle.std.specs.Prelude.{◌≡◌, ℕ, ◌+◌, ◌-◌, ◌*◌, ◌≤◌, ◌<◌, true, eqb, length, get_or};
 ghost use Rattle.format.specs.Bytes.{le_at, same};
 ghost use Rattle.format.specs.Text.{units, lossy};

@@ -1,4 +1,6 @@
 // The tree of a chunk that the map has under a name, read into the lent table.
+#![tactic(auto)]
+
 ghost use Rattle.std.specs.Prelude.{length};
 ghost use Rattle.format.specs.Trees.{room_in};
 ghost use Rattle.chunk.specs.Answers.{lookup_of};

@@ -1,5 +1,7 @@
 // Prints what is made of names in UTF-16: their units with each lone surrogate replaced, which of two names are the same, which are an
 // ASCII name, and how many units were compared to tell. second/names.py prints the same lines from the Unicode standard.
+#![tactic(auto)]
+
 ghost use Rattle.std.specs.Prelude.{◌+◌, ◌*◌, ◌≤◌, ◌<◌, length};
 
 use cursor::le2;

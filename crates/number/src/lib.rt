@@ -1,5 +1,7 @@
 // Number conversions, worked out from bits. A pattern is a sign, an exponent's field and the digits below the leading one: 1, 11
 // and 52 bits in an f64, 1, 8 and 23 in an f32.
+#![tactic(auto)]
+
 ghost use Rattle.std.specs.Prelude.{◌≡◌, ◌&&◌, cond, ℕ, ◌+◌, ◌/◌, ◌%◌, ◌^◌, ◌<◌, ◌≤◌, eqb, pos, negsuc, neg_ℤ};
 ghost use Rattle.std.proofs.Math.Option.{some, none};
 ghost use Rattle.std.specs.Float.Ieee as Ieee;
@@ -13,14 +15,14 @@ ghost use Rattle.number.specs.Exact.{Exact, Steps};
 ghost use Rattle.number.specs.Patterns.{Highest, Nearest, Narrowed};
 
 // What an unsigned reading gives.
-#[derive(Drop)]
+#[derive(Clone, Copy)]
 pub enum Natural {
     Is(u64),
     Absent,
 }
 
 // What a signed reading gives: Below(n) is the number -1 - n.
-#[derive(Drop)]
+#[derive(Clone, Copy)]
 pub enum Integer {
     Is(u64),
     Below(u64),
@@ -28,7 +30,7 @@ pub enum Integer {
 }
 
 // A double that may be absent.
-#[derive(Drop)]
+#[derive(Clone, Copy)]
 pub enum Real {
     Is(f64),
     Absent,

@@ -1,4 +1,6 @@
 // The IEEE 754 examples, run through the proved conversions: a line for each, with what it was and what each conversion made of it.
+#![tactic(auto)]
+
 use libc::STDOUT_FILENO;
 use number::{Integer, Natural, Real};
 

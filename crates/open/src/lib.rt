@@ -1,4 +1,6 @@
 // Opening a file: its map, attributes, experiment and calibration, in this order, and the summary of what they say.
+#![tactic(auto)]
+
 ghost use Rattle.std.specs.Prelude.{◌≡◌, List, ℕ, length, Float};
 ghost use Rattle.std.proofs.Math.Option.{Option};
 ghost use Rattle.format.specs.Answer.{Answer, given, refused, and_then};
@@ -38,14 +40,14 @@ use tree::Parsed;
 const ACCEPTED: u32 = 0;
 
 // What opening answers: 0 and the summary, or the number of a refusal and a summary that is all zero.
-#[derive(Drop)]
+#[derive(Clone, Copy)]
 pub struct Opened {
     pub number: u32,
     pub summary: Summary,
 }
 
 // The loops of an experiment, of which `depth` are used, and its z step; or the number of a refusal, 0 where there is none.
-#[derive(Drop)]
+#[derive(Clone, Copy)]
 pub struct Recorded {
     pub number: u32,
     pub loops: [Loop; 3],
@@ -54,7 +56,7 @@ pub struct Recorded {
 }
 
 // A calibration, or the number of a refusal.
-#[derive(Drop)]
+#[derive(Clone, Copy)]
 pub enum Calibrated {
     Is(Calibration),
     Refused(u32),

@@ -1,4 +1,6 @@
 // The picometres call (change request 5): the pixel size that the calibration's tree states, after every refusal in order.
+#![tactic(auto)]
+
 ghost use Rattle.std.specs.Prelude.{◌≡◌, length};
 ghost use Rattle.format.specs.Bytes.{ascii, zeros};
 ghost use Rattle.format.specs.Answer.{refused};
@@ -19,7 +21,7 @@ use tree::Parsed;
 use tree_call::tree_named;
 
 // The number of a call that is accepted, and the size; or the number of a refusal, and 0.
-#[derive(Drop)]
+#[derive(Clone, Copy)]
 pub struct Size {
     pub number: u32,
     pub picometres: u64,

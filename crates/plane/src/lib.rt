@@ -1,4 +1,6 @@
 // One plane of a file: the frame of a point is found, and one component's samples are copied out of it.
+#![tactic(auto)]
+
 ghost use Rattle.std.specs.Prelude.{◌≡◌};
 ghost use Rattle.format.specs.Frames.{frame_name};
 ghost use Rattle.format.specs.Calls.Plane.{bad_frame, frame_of, frame_for, plane_call};
@@ -26,7 +28,7 @@ const ACCEPTED: u32 = 0;
 const MAX_DECODED_PLANE_BYTES: u64 = 4_294_967_296;
 
 // The data of a point's frame in its file, or the number of a refusal.
-#[derive(Drop)]
+#[derive(Clone, Copy)]
 pub enum Frame {
     Data(Range),
     Refused(u32),

@@ -12,7 +12,7 @@ const MOST: u64 = 18_446_744_073_709_551_615;
 const TENTH: u64 = 1_844_674_407_370_955_161;
 
 // What a name is: that of a frame, or any other.
-#[derive(Drop)]
+#[derive(Clone, Copy)]
 pub enum Framed {
     Number(u64),
     Other,

@@ -10,7 +10,7 @@ use format::{Axis, Summary};
 use summary::pace_of;
 
 // A wheel shows an index, of `count`, for `stay` frames each; it has shown the present one for `stood` frames before this.
-#[derive(Drop)]
+#[derive(Clone, Copy)]
 pub struct Wheel {
     pub stay: u64,
     pub count: u64,

@@ -1,6 +1,8 @@
 // Replays the stored questions: reads the steps of data/cases one after the other, asks each question of the proved calls and prints the number
 // of the answer and a checksum of all that was lent for it. rust/replay writes the steps and, from the second implementation, what has to be
 // printed; rust/replay/src/step.rs says how a step is stored.
+#![tactic(auto)]
+
 ghost use Rattle.std.specs.Prelude.{◌+◌, ◌≤◌, length};
 
 use border::nd2_read_plane;
@@ -52,7 +54,7 @@ const MOST: usize = 65_536;
 const FILL: u8 = 0xA5;
 
 // One step: its kind, the bytes that follow it, the bytes that are lent as a table and as a buffer or a row, and a point.
-#[derive(Drop)]
+#[derive(Clone, Copy)]
 struct Step {
     kind: u64,
     size: usize,
@@ -65,7 +67,7 @@ struct Step {
 }
 
 // What questions are asked of: the bytes of the file, and the summary that opening gave last or that a step said.
-#[derive(Drop)]
+#[derive(Clone, Copy)]
 struct State {
     len: usize,
     summary: Summary,

@@ -1,4 +1,6 @@
 // Micrometres in whole picometres (change request 5), worked out from bits in two halves of 64: a double is never multiplied or divided.
+#![tactic(auto)]
+
 ghost use Rattle.std.specs.Prelude.{◌≡◌, ◌*◌, ◌^◌, ◌≤◌, ◌<◌, pos};
 ghost use Rattle.std.specs.Float.Ieee.Nearest.{closest};
 ghost use Rattle.format.specs.Numbers.{in_u64};
@@ -9,7 +11,7 @@ ghost use Rattle.scale.specs.Halves.{wide};
 use number::{Natural, double_bits, rounded};
 
 // A number of two halves: high * 2^64 + low.
-#[derive(Drop)]
+#[derive(Clone, Copy)]
 pub struct Wide {
     pub high: u64,
     pub low: u64,

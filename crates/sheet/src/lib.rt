@@ -1,4 +1,6 @@
 // A plane as a TIFF sheet, written and read (change request 2).
+#![tactic(auto)]
+
 ghost use Rattle.std.specs.Prelude.{◌≡◌, ◌≤◌, length, ltb};
 ghost use Rattle.format.specs.Sheets.{sheet_bytes};
 ghost use Rattle.format.specs.Calls.Sheet.{sheet_for, sheet_call, laid_as, sheet_read_call};
@@ -90,7 +92,7 @@ pub fn sheet(file: &[u8], u: Summary, scene: u64, t: u64, c: u64, z: u64, lent: 
 // ---- read
 
 // What a sheet says: 0 and its sizes and bits, or the number of a refusal and zeros.
-#[derive(Drop)]
+#[derive(Clone, Copy)]
 pub struct SheetRead {
     pub number: u32,
     pub width: u64,

@@ -1,4 +1,6 @@
 // What every call that takes a summary shares: whether the summary may be used, whether indices are in range, and the numbers of frames.
+#![tactic(auto)]
+
 ghost use Rattle.std.specs.Prelude.{◌≡◌, List, ◌∷◌, ◌+◌, ◌≤◌, ◌<◌, ltb, length, drop};
 ghost use Rattle.format.specs.Loops.{same_axis, has_axis};
 ghost use Rattle.format.specs.Frames.{count_of, index_of, seq_index, frames as framesOf};
@@ -178,7 +180,7 @@ pub fn frames(u: Summary) -> u64
 }
 
 // The pace of an axis: its index stays for so many frames, and has so many values.
-#[derive(Drop)]
+#[derive(Clone, Copy)]
 pub struct Pace {
     pub stay: u64,
     pub count: u64,

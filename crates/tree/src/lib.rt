@@ -1,4 +1,6 @@
 // A chunk's tree, read into the lent table of entries: records and values, by two functions that call each other.
+#![tactic(auto)]
+
 ghost use Rattle.std.specs.Prelude.{◌≡◌, ◌+◌, ◌*◌, ◌^◌, ◌≤◌, ◌<◌, length};
 ghost use Rattle.std.proofs.lemmas.List.Edits.{sets};
 ghost use Rattle.format.specs.Trees.{entry_bytes, room_in};
@@ -19,7 +21,7 @@ pub const MAX_CLX_DEPTH: usize = 64;
 pub const ENTRY_BYTES: usize = 48;
 
 // Where records or a value stand: their level's entry plus one, the entries in use, the levels that may stand here one in another.
-#[derive(Drop)]
+#[derive(Clone, Copy)]
 pub struct Spot {
     pub parent: u64,
     pub used: usize,
@@ -27,14 +29,14 @@ pub struct Spot {
 }
 
 // The cursor after records or a value, and the entries in use by then; or a fault.
-#[derive(Drop)]
+#[derive(Clone, Copy)]
 pub enum Step {
     Next(Cursor, usize),
     Fault(u32),
 }
 
 // A tree: how many entries it has; or why it is refused.
-#[derive(Drop)]
+#[derive(Clone, Copy)]
 pub enum Parsed {
     Entries(usize),
     Refused(u32),

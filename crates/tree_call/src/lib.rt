@@ -1,4 +1,6 @@
 // The tree call: the tree of the chunk that the map has under a name, in the lent table.
+#![tactic(auto)]
+
 ghost use Rattle.std.specs.Prelude.{◌≡◌, ◌++◌, ◌-◌, ◌*◌, ◌≤◌, length, take};
 ghost use Rattle.format.specs.Bytes.{zeros};
 ghost use Rattle.format.specs.Trees.{room_in};

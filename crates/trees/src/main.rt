@@ -1,4 +1,6 @@
 // Trees of document 01's edges, and odd ones: for each its name, the number that it ends with (0 where it is whole), and its entries.
+#![tactic(auto)]
+
 ghost use Rattle.std.specs.Prelude.{◌+◌, ◌*◌, ◌^◌, ◌≤◌, ◌<◌, length};
 
 use cursor::{le8, put4, put8};
