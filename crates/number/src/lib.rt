@@ -198,8 +198,8 @@ fn negated(n: u64) -> Integer
 
 // q / 2^n to the nearest whole number, a tie to the even one.
 pub fn rounded(q: u64, n: u64) -> u64
-    requires fact_1 { 1 ≤ n }
-    requires fact_2 { n < 63 }
+    requires low { 1 ≤ n }
+    requires high { n < 63 }
     ensures { result ≡ closest q (2 ^ n) }
 {
     let unit: u64 = 1 << n;
@@ -257,8 +257,8 @@ pub fn of_below(n: u64) -> f64
 
 // The f32 nearest to the f64 of an exponent's field and digits, as a pattern.
 fn narrow_fields(exponent: u64, digits: u64) -> u32
-    requires fact_1 { exponent < 2048 }
-    requires fact_2 { digits < 2 ^ 52 }
+    requires exponent_fits { exponent < 2048 }
+    requires digits_fit { digits < 2 ^ 52 }
     ensures { Narrowed exponent digits result }
 {
     if exponent == 2047 {
@@ -318,7 +318,7 @@ pub fn stated_step(x: f64) -> Real
 
 // The z step of a stack of `count` from `low` to `high`: exact where the distance and the step are doubles.
 pub fn span_step(count: u64, high: f64, low: f64) -> Real
-    ensures result_value { real result ≡ Calibration.span_step count (some high) (some low) }
+    ensures step { real result ≡ Calibration.span_step count (some high) (some low) }
     ensures exact { (step : ℕ) → Exact count high low step → Steps result step }
 {
     if count > 1 {

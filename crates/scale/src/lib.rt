@@ -48,8 +48,8 @@ fn product(digits: u64) -> Wide
 
 // The whole number nearest to w / 2^n, a tie to the even one, where the point lies in the low half. Absent: 2^64 and above.
 fn point_in_low(w: Wide, n: u64) -> Natural
-    requires fact_1 { 1 ≤ n }
-    requires fact_2 { n < 63 }
+    requires low { 1 ≤ n }
+    requires high { n < 63 }
     ensures { natural result ≡ in_u64 (pos (closest (wide w) (2 ^ n))) }
 {
     if w.high >> n != 0 {
@@ -66,9 +66,9 @@ fn point_in_low(w: Wide, n: u64) -> Natural
 
 // The same where it lies in the high half: of the lowest word it counts only whether it is 0.
 fn point_in_high(w: Wide, n: u64) -> u64
-    requires fact_1 { w.high < 2 ^ 30 }
-    requires fact_2 { 34 ≤ n }
-    requires fact_3 { n < 94 }
+    requires small { w.high < 2 ^ 30 }
+    requires low { 34 ≤ n }
+    requires high { n < 94 }
     ensures { result ≡ closest (wide w) (2 ^ n) }
 {
     let front = w.high * WORD + w.low / WORD;
@@ -83,8 +83,8 @@ fn point_in_high(w: Wide, n: u64) -> u64
 
 // digits / 2^n micrometres. From 74 on they are less than half a picometre.
 fn scaled(digits: u64, n: u64) -> Natural
-    requires fact_1 { digits < 2 ^ 53 }
-    requires fact_2 { 1 ≤ n }
+    requires small { digits < 2 ^ 53 }
+    requires low { 1 ≤ n }
     ensures { natural result ≡ in_u64 (pos (closest (digits * 1_000_000) (2 ^ n))) }
 {
     if n > 73 {
