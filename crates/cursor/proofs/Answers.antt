@@ -82,7 +82,8 @@ module _ (d : List ℕ) (children : Children) (k start i e : ℕ) where
   unfolding value
   value_text h entry = rw h
 
-  pub value_fixed : (k ≡ 11 → ⊥) → (k ≡ 9 → ⊥) → (k ≡ 8 → ⊥) → (entry : ℕ → ℕ → Entry) → value d children k start i e entry ≡ fixed_value (fixed_len k) i e entry
+  pub value_fixed : (k ≡ 11 → ⊥) → (k ≡ 9 → ⊥) → (k ≡ 8 → ⊥) → (entry : ℕ → ℕ → Entry) → value d children k start i e entry
+      ≡ fixed_value (fixed_len k) i e entry
   unfolding value
   value_fixed h₁ h₂ h₃ entry = rw (ne_eqb k 11 h₁, ne_eqb k 9 h₂, ne_eqb k 8 h₃)
 

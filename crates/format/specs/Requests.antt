@@ -201,7 +201,8 @@ pub record Picometres : Type 0 where
   pub table_zero : (file : List ℕ) (u : Summary) (table : List ℕ) → (picometres_call file u table).table ≡ zeros (length table)
   pub refused_zero : (file : List ℕ) (u : Summary) (table : List ℕ)
       → Refuses (picometres_call file u table).number → (picometres_call file u table).picometres ≡ 0
-  pub size : (file : List ℕ) (u : Summary) (table : List ℕ) → (picometres_call file u table).number ≡ 0 → SizeIs file u (picometres_call file u table).picometres
+  pub size : (file : List ℕ) (u : Summary) (table : List ℕ) → (picometres_call file u table).number ≡ 0
+      → SizeIs file u (picometres_call file u table).picometres
   -- no bytes have two sizes
   pub size_once : (file : List ℕ) (u : Summary) (n m : ℕ) → SizeIs file u n → SizeIs file u m → n ≡ m
   -- beside an opening with a table as long

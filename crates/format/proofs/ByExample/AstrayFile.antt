@@ -85,7 +85,8 @@ pub record AstrayPlanes : Type 0 where
   pub short : plane_of (chunk "ImageDataSeq|1!" (7 ∷ []) ∷ []) 1 ≡ turned 24
 
 pub astray_planes : AstrayPlanes
-unfolding framed plane_of ascii le_bytes end_mark map_name plane_call refuse_if bad_summary count_of and_then map_entries part same begins le_at or_refuse offset_of
+unfolding framed plane_of ascii le_bytes end_mark map_name plane_call refuse_if bad_summary count_of and_then map_entries part same begins le_at or_refuse
+    offset_of
     seq_index chunk_data
 astray_planes = record {
   own = refl;

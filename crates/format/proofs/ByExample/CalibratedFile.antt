@@ -72,7 +72,8 @@ pub record CalibratedSizes : Type 0 where
   pub table_short : sized (f64 "dCalibration" 0x7FF0000000000000) 95 ≡ record { number = 18; picometres = 0; table = replicate 95 0 }
 
 pub calibrated_sizes : CalibratedSizes
-unfolding calibrated calibrated_summary ascii le_bytes end_mark map_name picometres_call refuse_if bad_summary and_then map_entries part same or_refuse offset_of
+unfolding calibrated calibrated_summary ascii le_bytes end_mark map_name picometres_call refuse_if bad_summary and_then map_entries part same or_refuse
+    offset_of
     chunk_data named_tree within tree_in le_at as_level field slots_of name_of units lossy bind put_named put_unnamed elements slot_value value_at
     float positive lt of_bits of_int round pixel_size picometres
 calibrated_sizes = record {

@@ -81,7 +81,8 @@ pub camera_channels :
       table = replicate 864 0;
       row = red_green ∷ red_green ∷ empty_channel ∷ blue ∷ others ∷ others ∷ empty_channel ∷ [];
     }
-unfolding camera camera_summary ascii le_bytes end_mark map_name channels_call refuse_if bad_summary and_then map_entries part same or_refuse offset_of chunk_data
+unfolding camera camera_summary ascii le_bytes end_mark map_name channels_call refuse_if bad_summary and_then map_entries part same or_refuse offset_of
+    chunk_data
     named_tree within tree_in plane_records planes_level plane_levels plane_record covers_of covered channel_of empty_channel as_level field slots_of name_of
     units lossy le_at bind unsigned below32 put_named put_unnamed elements slot_value value_at child_levels
 camera_channels = refl

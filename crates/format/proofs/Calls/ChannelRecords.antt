@@ -105,7 +105,8 @@ module _ (s : List ℕ) (u : Summary) where
                     refused≢given (sym q ∙ given_tree s (map_of s u) es planes_name room ts r y t (leb-true _ _ h))
                 fits false h =
                     let n = length (tree_in s r).entries in
-                    let y : TableShort s u planes_name room = record { place = r; chunk = x; count = n; passed = passed_read s r; too_many = leb-false _ _ h } in
+                    let y : TableShort s u planes_name room = record { place = r; chunk = x; count = n; passed = passed_read s r; too_many = leb-false _ _ h }
+                    in
                     let z = sym q ∙ read_short s u planes_name room es map_read y in
                     f cc
 

@@ -99,7 +99,8 @@ module _ (s : List ℕ) (u : Summary) (bytes : List ℕ) (channels : List Channe
   channels_accepted = accepted_iff (nonzero channels_order refl) (in_order s u (room_in (length bytes)) (length channels)) channels_number
 
   -- Where it is not 0, every record is empty.
-  pub channels_refused : ((channels_call s u bytes channels).number ≡ 0 → ⊥) → (channels_call s u bytes channels).row ≡ replicate (length channels) empty_channel
+  pub channels_refused : ((channels_call s u bytes channels).number ≡ 0 → ⊥) → (channels_call s u bytes channels).row
+      ≡ replicate (length channels) empty_channel
   unfolding channels_call row_by fitted number_of
   channels_refused f = go (records_of s u (room_in (length bytes)) (length channels)) f
     where

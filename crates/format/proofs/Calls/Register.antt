@@ -142,7 +142,8 @@ module _ (m : List ℕ) (es : List MapEntry) (ls : List Loop) (e : MapEntry) whe
 
   record_same : (n : ℕ) → bears n ≡ false → frame_record m (es ++ e ∷ []) ls n ≡ frame_record m es ls n
   unfolding frame_record
-  record_same n f = let q : offset_of m (frame_name n) (es ++ e ∷ []) ≡ offset_of m (frame_name n) es = offset_last m (frame_name n) es e ∙ rw f refl in rw q refl
+  record_same n f = let q : offset_of m (frame_name n) (es ++ e ∷ []) ≡ offset_of m (frame_name n) es = offset_last m (frame_name n) es e ∙ rw f refl in
+      rw q refl
 
   record_stored : (n : ℕ) (t : List ℕ) → offset_of m (frame_name n) (es ++ e ∷ []) ≡ some e.offset
       → sets (frame_record m es ls n ++ t) 12 (place_bytes (some e.offset)) ≡ frame_record m (es ++ e ∷ []) ls n ++ t

@@ -135,7 +135,8 @@ module _ (w h b : ℕ) (xs : List ℕ) (z : SheetSizes w h b xs) where
   whole_is = z.whole ∙ ap (λ n. w * h * n) (size_is_bytes z.size_is)
 
   pub sheet_ruled : SheetOf (sheet w h b xs) w h b xs
-  unfolding le_at part AllBytes sheet sheet_head tiff_header tiff_directory sheet_fields rational_bytes each field_bytes value_bytes type_number le_bytes ascii zeros
+  unfolding le_at part AllBytes sheet sheet_head tiff_header tiff_directory sheet_fields rational_bytes each field_bytes value_bytes type_number le_bytes ascii
+      zeros
   sheet_ruled =
       let (small, (small-format, some)) = bits_small z.size_is in
       let (lw, (lh, _)) = factors w h z.size (length xs) z.width_some z.height_some some z.whole in

@@ -161,7 +161,8 @@ module _ (s : List ℕ) (u : Summary) (scene t c z : ℕ) where
       size : ℕ
       size = sheet_bytes u.width u.height u.bits
 
-      own : (r : Range) → refuse_if (ltb most_sheet_bytes size) why.sheet_long (refuse_if (ltb (length lent) size) why.buffer (given r)) ≡ refused why.chunk_name
+      own : (r : Range) → refuse_if (ltb most_sheet_bytes size) why.sheet_long (refuse_if (ltb (length lent) size) why.buffer (given r))
+          ≡ refused why.chunk_name
           → ⊥
       own r e =
           let (f, g) = refuse_if_past (ltb most_sheet_bytes size) why.sheet_long _ (λ q. omega arith) e in

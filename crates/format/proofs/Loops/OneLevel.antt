@@ -302,7 +302,8 @@ module _ (s : List ℕ) (es : List Entry) (M : Means s es) where
   said_typed i p t x y = rw ((parameters_in i).only p x, (kind_in i).only (pos t) y) refl
 
   -- by the type alone, whatever the parameters
-  type_said : (i : ℕ) (k : Option ℤ) → bind (field_in s es i (ascii "eType")) signed ≡ k → ((p : ℕ) → said_by s es i (some p) k ≡ nothing) → said s es i ≡ nothing
+  type_said : (i : ℕ) (k : Option ℤ) → bind (field_in s es i (ascii "eType")) signed ≡ k → ((p : ℕ) → said_by s es i (some p) k ≡ nothing) → said s es i
+      ≡ nothing
   unfolding said
   type_said i k q f = rw q (go (loop_params s es (field_in s es i (ascii "uLoopPars"))))
     where

@@ -224,7 +224,8 @@ module _ (s m : List ℕ) (es : List MapEntry) (room : ℕ) (z : Option Float) w
       rw (refused_tree s m es name room n r x q (fit r x), ne_eqb n why.table (λ e. omega arith), ne_eqb n why.packed h) refl
   read_calibration size (missing f) fit = go (named_chunk s m es name) refl (named_numbered s m es name)
     where
-      go : (x : Answer Range) → named_chunk s m es name ≡ x → Numbered Missing x → calibration_by s (z_float z) (named_tree s m es room name) ≡ given (unstated 0)
+      go : (x : Answer Range) → named_chunk s m es name ≡ x → Numbered Missing x → calibration_by s (z_float z) (named_tree s m es room name)
+          ≡ given (unstated 0)
       go (given r) q h = absurd (f r (named_read s m es name r q))
       go (refused n) q (refusal no_entry) = rw (refused_chunk s m es name room why.missing q) refl
       go (refused n) q (refusal no_chunk) = rw (refused_chunk s m es name room why.chunk q) refl

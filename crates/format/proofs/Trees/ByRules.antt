@@ -398,9 +398,11 @@ module _ (d : List ℕ) (base : ℕ) where
   wrong_read left parent used i e n (items_over h h₁ h₂) =
       stop_of_is _ _ (head_read (children_at left d base) parent used i e 11 _ h level_known refl) ∙ items_stop (children_at left d base used) parent i e h₁ h₂
   wrong_read left parent used i e n (length_cut h h₁ h₂ h₃) =
-      stop_of_is _ _ (head_read (children_at left d base) parent used i e 11 _ h level_known refl) ∙ length_stop (children_at left d base used) parent i e h₁ h₂ h₃
+      stop_of_is _ _ (head_read (children_at left d base) parent used i e 11 _ h level_known refl)
+      ∙ length_stop (children_at left d base used) parent i e h₁ h₂ h₃
   wrong_read left parent used i e n (length_under h h₁ h₂ h₃) =
-      stop_of_is _ _ (head_read (children_at left d base) parent used i e 11 _ h level_known refl) ∙ under_stop (children_at left d base used) parent i e h₁ h₂ h₃
+      stop_of_is _ _ (head_read (children_at left d base) parent used i e 11 _ h level_known refl)
+      ∙ under_stop (children_at left d base used) parent i e h₁ h₂ h₃
   wrong_read left parent used i e n (kids_cut h h₁ h₂ h₃ h₄) =
       stop_of_is _ _ (head_read (children_at left d base) parent used i e 11 _ h level_known refl)
       ∙ kids_stop (children_at left d base used) parent i e h₁ h₂ h₃ h₄
@@ -667,7 +669,8 @@ module _ (d : List ℕ) (base : ℕ) where
       where
         go : (b : Bool) → leb (value_start d i + n) e ≡ b
             → FormedOne left parent used i e (entered (entry_of d base parent i (value_start d i) n) (cond b (at (value_start d i + n)) (fault 6)))
-        go true q = at_one left parent used i e (get_or d i 0) (value_start d i) n (value_start d i + n) (head_of (get_or d i 0) refl) (fixed w (leb-true _ _ q))
+        go true q = at_one left parent used i e (get_or d i 0) (value_start d i) n (value_start d i + n) (head_of (get_or d i 0) refl)
+            (fixed w (leb-true _ _ q))
         go false q =
             fault_one left parent used i e _ 6 refl (number_cut (head_of (get_or d i 0) refl) w (leb-false _ _ q))
             (pass_this (head_of (get_or d i 0) refl) (fixed_of (get_or d i 0) n w))

@@ -88,7 +88,8 @@ elements_unique p q (Elements.appended e) (Elements.appended f) = cc
 
 -- ---- a value among elements or entries
 
-add_level_is : (Has : ℕ → Value → Type 0) (j : ℕ) (v : Value) (js is : List ℕ) → Has j v → Levels Has js is → Levels Has (j ∷ js) (add_level (as_level (some v)) is)
+add_level_is : (Has : ℕ → Value → Type 0) (j : ℕ) (v : Value) (js is : List ℕ) → Has j v → Levels Has js is
+    → Levels Has (j ∷ js) (add_level (as_level (some v)) is)
 unfolding add_level
 add_level_is Has j v js is h t = go (as_level (some v)) refl
   where
@@ -230,7 +231,8 @@ module _ (s : List ℕ) (es : List Entry) (D : ℕ → ℕ) (R : Ranked D 0 es) 
   bears_deeper : (i j : ℕ) (n : List ℕ) → Bears s es (suc i) n j → D i < D j
   bears_deeper i j n b = child_depth D es R j b.entry b.there i b.child
 
-  value_from_is : (levels i : ℕ) (e : Entry) → get_elem? es i ≡ some e → most_depth < D i + suc levels → ValueOf s es i (value_from (suc levels) s es i (some e))
+  value_from_is : (levels i : ℕ) (e : Entry) → get_elem? es i ≡ some e → most_depth < D i + suc levels
+      → ValueOf s es i (value_from (suc levels) s es i (some e))
   unfolding value_from
   value_from_is zero i e q h =
       kind_value s es i e (entry_typed D es R i e q) q (λ j. value_from 0 s es j (get_elem? es j)) λ k. absurd (omega (arith, level_depth D es R i e q k))
@@ -357,7 +359,8 @@ module _ (s : List ℕ) (es : List Entry) (D : ℕ → ℕ) (R : Ranked D 0 es) 
   unfolding child_levels
   levels_of_is i v d (plain p) = rw (plain_levels s es v p) (LevelsIn.of_other (plain_level v p) (plain_list v p))
   levels_of_is i v d (a_level {i = j}) =
-      LevelsIn.of_level (places_just s es (suc j)) (levels_slots (suc j) (slots_of_is s es (suc j)).places (slots_of s es (suc j)) (slots_of_is s es (suc j)).slots)
+      LevelsIn.of_level (places_just s es (suc j)) (levels_slots (suc j) (slots_of_is s es (suc j)).places (slots_of s es (suc j))
+      (slots_of_is s es (suc j)).slots)
   levels_of_is i v d (a_list {l}) = LevelsIn.of_list (levels_list l (elements_of_is i l d))
 
   of_levels : (v : Value) (is : List ℕ) → LevelsIn s es v is → Kind v → child_levels s es (some v) ≡ is

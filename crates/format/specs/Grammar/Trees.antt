@@ -122,7 +122,8 @@ pub data Wrong (d : List ℕ) (i e : ℕ) : ℕ → ℕ → Type 0 where
   items_over : {left : ℕ} → Head d i e 11 → value_start d i + 4 ≤ e → most_items < count_at d i → Wrong d i e left why.level
   length_cut : {left : ℕ} → Head d i e 11 → value_start d i + 4 ≤ e → count_at d i ≤ most_items → e < kids_from d i → Wrong d i e left why.cut
   length_under : {left : ℕ} → Head d i e 11 → kids_from d i ≤ e → count_at d i ≤ most_items → kids_to d i < kids_from d i → Wrong d i e left why.level
-  kids_cut : {left : ℕ} → Head d i e 11 → kids_from d i ≤ e → count_at d i ≤ most_items → kids_from d i ≤ kids_to d i → e < kids_to d i → Wrong d i e left why.cut
+  kids_cut : {left : ℕ} → Head d i e 11 → kids_from d i ≤ e → count_at d i ≤ most_items → kids_from d i ≤ kids_to d i → e < kids_to d i
+      → Wrong d i e left why.cut
   too_deep : Level d i e → Wrong d i e 0 why.deep
 
 -- `Faults d base left parent count used i e n`: among at most `count` records from i on, the first fault has the number n. The other arguments are those of

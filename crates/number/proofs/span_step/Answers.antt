@@ -11,7 +11,11 @@ unfolding of_bits span_step
 returns-then-count-gt1 c =
     let a = c.args in
     let m = c.magnitude.ensures in
-    let w = c.of_whole.ensures in record { step = simp (lt-ltb 1 a.count c.if-count-gt1.true, m, w); exact = λ step x. simp (m, w) (exact_step a.count a.high a.low step x) }
+    let w = c.of_whole.ensures in record {
+      step = simp (lt-ltb 1 a.count c.if-count-gt1.true, m, w);
+      exact =
+          λ step x. simp (m, w) (exact_step a.count a.high a.low step x);
+    }
 
 pub returns-else-count-gt1 : goal.returns-else-count-gt1
 unfolding span_step
