@@ -1,4 +1,3 @@
 pub mod Widths
-pub mod Thin
 pub mod InARow
 pub mod Openings

@@ -1,0 +1,27 @@
+-- A place past the end is cut at every width; elsewhere the by-value read of that width answers.
+use Prim.Native.Nat.{◌<◌}
+use native.Mathlib.Omega.{arith}
+use lib.ListN.{length}
+use Rattle.cursor.specs.Words.{to}
+use Rattle.cursor.proofs.Reading.{cut}
+use Rattle.chunk_cursor.specs.Places.{bytes_of}
+use Rattle.chunk_cursor.proofs.Widths.{past}
+use Rattle.chunk_cursor.proofs.word_in.Goals as goal
+
+pub returns-then-end-at : goal.returns-then-end-at
+returns-then-end-at c =
+    let a = c.args in
+    let h : length a.slice.now < a.at = omega (arith, c.if-end-at) in
+    cut (bytes_of a.width) a.slice.now (to a.at (length a.slice.now)) (past a.width h)
+
+pub returns-in-One : goal.returns-in-One
+returns-in-One c = rw c.in-One.is c.read_u8.ensures
+
+pub returns-in-Two : goal.returns-in-Two
+returns-in-Two c = rw c.in-Two.is c.read_u16.ensures
+
+pub returns-in-Four : goal.returns-in-Four
+returns-in-Four c = rw c.in-Four.is c.read_u32.ensures
+
+pub returns-in-Eight : goal.returns-in-Eight
+returns-in-Eight c = rw c.in-Eight.is c.read_u64.ensures
