@@ -1,0 +1,12 @@
+-- The four numbers are the mark's, of 32 bytes.
+use borrow.Author.Rules.{rules}
+use Rattle.format.specs.Bytes.{ascii, le_at}
+use Rattle.format.specs.Map.{end_mark}
+use Rattle.chunk.proofs.Comparing.{told_mark}
+use Rattle.chunk.proofs.names.end_at.Goals as goal
+
+pub returns : goal.returns
+unfolding end_mark ascii le_at
+returns c =
+    let known = c.shared_slice_known-1.given in
+    told_mark _ _ (λ j. (known j).fits) (search rules) c.le8-a.ensures c.le8-b.ensures c.le8-c.ensures c.le8-d.ensures
