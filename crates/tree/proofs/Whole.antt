@@ -9,7 +9,7 @@ use lib.Seq.{take_at}
 use Rattle.format.proofs.Trees.Tables.{length_table, sets_over, within_whole, entries_back}
 use Rattle.format.specs.Answer.{given, refused}
 use Rattle.format.specs.Bytes.{over}
-use Rattle.format.specs.Trees.{at, fault, Read, read, room_in, within, whole_tree, table_bytes}
+use Rattle.format.specs.Trees.{fault, Read, read, room_in, within, whole_tree, table_bytes}
 use Rattle.format.specs.declared.Entry.{Entry}
 use Rattle.cursor.specs.Words.{to}
 use Rattle.cursor.specs.declared.Cursor.{Cursor}

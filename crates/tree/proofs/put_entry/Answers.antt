@@ -1,0 +1,11 @@
+-- `tree::put_entry` stores the bytes of an entry.
+use mathlib.Core.Path.{sym}
+use native.Mathlib.Omega.{arith}
+use Rattle.format.proofs.Trees.Tables.{sets_entry}
+use Rattle.tree.proofs.put_entry.Goals as goal
+
+pub returns : goal.returns
+returns c = (
+  rw (c.put8-6.ensures, c.put8-5.ensures, c.put8-4.ensures, c.put8-3.ensures, c.put8-2.ensures, c.put8.ensures) (sym (sets_entry _ _ _)),
+  (omega (arith, c)),
+)
