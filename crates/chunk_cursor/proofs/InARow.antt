@@ -26,7 +26,8 @@ module _ (m n : ℕ) (s : List ℕ) (a e : ℕ) (fits : m ≤ n) where
       sym (cut n s (to a e) (omega (arith, h))).0 ∙ (cut n s (to (a + m) e) (omega (arith, h))).0
 
 -- two reads of one byte are a record's start
-starts : (s : List ℕ) (a : ℕ) (k t : Word) → word_of k ≡ word_at 1 s (to a (length s)) → word_of t ≡ word_at 1 s (to (a + 1) (length s)) → start_by k t ≡ start_at s a
+starts : (s : List ℕ) (a : ℕ) (k t : Word) → word_of k ≡ word_at 1 s (to a (length s)) → word_of t ≡ word_at 1 s (to (a + 1) (length s))
+    → start_by k t ≡ start_at s a
 unfolding start_at
 starts s a (Got x c) (Got y d) p q =
     let (l, e, z) = was_got 1 s (to a (length s)) (sym p) in

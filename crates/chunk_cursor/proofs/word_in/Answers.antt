@@ -13,15 +13,3 @@ returns-then-end-at c =
     let a = c.args in
     let h : length a.slice.now < a.at = omega (arith, c.if-end-at) in
     cut (bytes_of a.width) a.slice.now (to a.at (length a.slice.now)) (past a.width h)
-
-pub returns-in-One : goal.returns-in-One
-returns-in-One c = rw c.in-One.is c.read_u8.ensures
-
-pub returns-in-Two : goal.returns-in-Two
-returns-in-Two c = rw c.in-Two.is c.read_u16.ensures
-
-pub returns-in-Four : goal.returns-in-Four
-returns-in-Four c = rw c.in-Four.is c.read_u32.ensures
-
-pub returns-in-Eight : goal.returns-in-Eight
-returns-in-Eight c = rw c.in-Eight.is c.read_u64.ensures
