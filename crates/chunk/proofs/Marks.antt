@@ -79,8 +79,8 @@ module _ {s : List ℕ} {at n a b : ℕ} (f : Marked s at n a) (g : Marked s (at
 
   join_clear : (a : ℕ) → Marked s at n a → Clear s at (at + count_trailing_zeros (n + n) (b * 2 ^ n + a))
   join_clear zero f =
-      rw (add-zero, low_none n n b)
-      (let z : at + (count_trailing_zeros n b + n) ≡ at + n + count_trailing_zeros n b = omega arith in rw z (clear_join (rw (trailing_of_zero n) at f.clear) g.clear))
+      let z : at + (count_trailing_zeros n b + n) ≡ at + n + count_trailing_zeros n b = omega arith in
+      rw (add-zero, low_none n n b) (rw z (clear_join (rw (trailing_of_zero n) at f.clear) g.clear))
   join_clear (suc a) f = rw (low_set n n (suc a) b (omega arith) f.low) f.clear
 
   pub marked_join : Marked s at (n + n) (a + 2 ^ n * b)

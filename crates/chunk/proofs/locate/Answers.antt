@@ -1,7 +1,5 @@
 -- Each test in turn, by the law of the map's place that it fails or passes.
-use Prim.Native.Nat.{ℕ}
 use mathlib.Core.Path.{◌≡◌, sym, ◌∙◌}
-use mathlib.Core.List.{List}
 use Rattle.format.specs.Bytes.{ascii}
 use Rattle.format.specs.Refusals as why
 use Rattle.format.specs.Answer.{Answer}
@@ -9,7 +7,6 @@ use Rattle.format.specs.Chunks.{chunk_data}
 use Rattle.format.specs.Map.{map_name, map_range}
 use Rattle.format.specs.declared.Range.{Range}
 use Rattle.format.proofs.Map.Entries.{range_short, range_old, range_other, range_bare, range_none, range_chunk}
-use borrow.Author.Rules.{rules}
 use Rattle.chunk.proofs.locate.Goals as goal
 use Rattle.chunk.proofs.locate.Goals.{After-chunk_data}
 
@@ -42,7 +39,7 @@ placed : (d : After-chunk_data) → {a : Answer Range} → a ≡ chunk_data why.
 placed d q =
     let f = d.le4-first.ensures.0 in
     range_chunk _ d.if-n-lt4.false (λ e. d.if-first-eq-JP2_MAGIC.false (f ∙ e)) (sym f ∙ d.if-first-ne-ND2_CHUNK_MAGIC.false) d.if-n-lt40.false
-        (sym d.is_end.ensures ∙ d.if-not-is_end.false) d.le8-offset.ensures q
+    (sym d.is_end.ensures ∙ d.if-not-is_end.false) d.le8-offset.ensures q
 
 pub returns-in-Data : goal.returns-in-Data
 unfolding map_name ascii

@@ -1,5 +1,4 @@
 -- As a pass for one name, three times.
-use Prim.Native.Nat.{◌-◌}
 use native.Mathlib.Omega.{arith}
 use Rattle.chunk.specs.Scan.{Entry}
 use Rattle.chunk.proofs.Scan.{scan_start, scan_broken, scan_end, scan_hit, scan_miss}
@@ -61,14 +60,17 @@ loop-n-preserved c =
     let t = c.is_at-in-Named.ensures in
     let u = c.is_at-in-Named-2.ensures in (
       elim c.if-is_at.branch [
-        then-is_at w ↦ scan_hit h.0 e s w.if-is_at.true w.le8.ensures w.x-is
-      | else-is_at w ↦ scan_miss h.0 e s w.if-is_at.false w.x-is ],
+        | then-is_at w ↦ scan_hit h.0 e s w.if-is_at.true w.le8.ensures w.x-is
+        | else-is_at w ↦ scan_miss h.0 e s w.if-is_at.false w.x-is
+      ],
       elim c.if-is_at-2.branch [
-        then-is_at-2 w ↦ scan_hit h.1 e t w.if-is_at-2.true w.le8-then-is_at-2.ensures w.y-is
-      | else-is_at-2 w ↦ scan_miss h.1 e t w.if-is_at-2.false w.y-is ],
+        | then-is_at-2 w ↦ scan_hit h.1 e t w.if-is_at-2.true w.le8-then-is_at-2.ensures w.y-is
+        | else-is_at-2 w ↦ scan_miss h.1 e t w.if-is_at-2.false w.y-is
+      ],
       elim c.if-is_at-3.branch [
-        then-is_at-3 w ↦ scan_hit h.2 e u w.if-is_at-3.true w.le8-then-is_at-3.ensures w.z-is
-      | else-is_at-3 w ↦ scan_miss h.2 e u w.if-is_at-3.false w.z-is ],
+        | then-is_at-3 w ↦ scan_hit h.2 e u w.if-is_at-3.true w.le8-then-is_at-3.ensures w.z-is
+        | else-is_at-3 w ↦ scan_miss h.2 e u w.if-is_at-3.false w.z-is
+      ],
     )
 
 pub returns-in-End : goal.returns-in-End

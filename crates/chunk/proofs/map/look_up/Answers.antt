@@ -1,5 +1,4 @@
 -- The entries passed have given the name `last`; the rest is what stands next.
-use Prim.Native.Nat.{◌-◌}
 use native.Mathlib.Omega.{arith}
 use Rattle.chunk.specs.Scan.{Entry}
 use Rattle.chunk.proofs.Scan.{scan_start, scan_broken, scan_end, scan_hit, scan_miss}
@@ -41,8 +40,9 @@ loop-n-preserved c =
     let e = entry (goal.at.loop-n-preserved c).In-Named in
     let s = c.is_at.ensures in
     elim c.if-is_at.branch [
-      then-is_at w ↦ scan_hit h e s w.if-is_at.true w.le8.ensures w.last-is
-    | else-is_at w ↦ scan_miss h e s w.if-is_at.false w.last-is ]
+      | then-is_at w ↦ scan_hit h e s w.if-is_at.true w.le8.ensures w.last-is
+      | else-is_at w ↦ scan_miss h e s w.if-is_at.false w.last-is
+    ]
 
 pub returns-in-End : goal.returns-in-End
 returns-in-End c = scan_end c.loop-n.invariant (rw c.in-End.is at c.next_entry.ensures.1)

@@ -1,5 +1,4 @@
 -- The entries passed leave the map's number to the rest, which is what stands next.
-use Prim.Native.Nat.{◌-◌}
 use native.Mathlib.Omega.{arith}
 use Rattle.format.specs.Answer.{number_of}
 use Rattle.chunk.specs.Scan.{Entry}

@@ -28,15 +28,20 @@ returns-then-is_end c = next_end _ _ _ (through (goal.at.returns-then-is_end c).
 
 pub returns-then-entries-eq-MAX_MAP_ENTRIES : goal.returns-then-entries-eq-MAX_MAP_ENTRIES
 returns-then-entries-eq-MAX_MAP_ENTRIES c =
-    next_full _ _ _ (through (goal.at.returns-then-entries-eq-MAX_MAP_ENTRIES c).In-Through) (sym c.is_end.ensures ∙ c.if-is_end.false) c.if-entries-eq-MAX_MAP_ENTRIES.true
+    let g = (goal.at.returns-then-entries-eq-MAX_MAP_ENTRIES c).In-Through in
+    next_full _ _ _ (through g) (sym c.is_end.ensures ∙ c.if-is_end.false) c.if-entries-eq-MAX_MAP_ENTRIES.true
 
 pub overflow_sub-map-2 : goal.overflow_sub-map-2
 overflow_sub-map-2 c = omega (arith, ends (goal.at.overflow_sub-map-2 c).In-Through)
 
 pub returns-then-map-at-lt16 : goal.returns-then-map-at-lt16
 returns-then-map-at-lt16 c =
-    next_cut _ _ _ (through (goal.at.returns-then-map-at-lt16 c).In-Through) (sym c.is_end.ensures ∙ c.if-is_end.false) (omega (arith, c.if-entries-eq-MAX_MAP_ENTRIES.false)) (omega (arith, ends (goal.at.returns-then-map-at-lt16 c).In-Through))
+    let g = (goal.at.returns-then-map-at-lt16 c).In-Through in
+    let few = c.if-entries-eq-MAX_MAP_ENTRIES.false in
+    next_cut _ _ _ (through g) (sym c.is_end.ensures ∙ c.if-is_end.false) (omega (arith, few)) (omega (arith, ends g))
 
 pub returns : goal.returns
 returns c =
-    next_entry _ _ _ (through (goal.at.returns c).In-Through) (sym c.is_end.ensures ∙ c.if-is_end.false) (omega (arith, c.if-entries-eq-MAX_MAP_ENTRIES.false)) (omega (arith, ends (goal.at.returns c).In-Through))
+    let g = (goal.at.returns c).In-Through in
+    let few = c.if-entries-eq-MAX_MAP_ENTRIES.false in
+    next_entry _ _ _ (through g) (sym c.is_end.ensures ∙ c.if-is_end.false) (omega (arith, few)) (omega (arith, ends g))

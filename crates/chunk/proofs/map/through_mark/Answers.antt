@@ -1,5 +1,4 @@
 -- No '!' stands from `at` up to `i`; the one at `i` is the first.
-use Prim.Native.Nat.{◌-◌}
 use native.Mathlib.Omega.{arith}
 use borrow.Author.Rules.{rules}
 use Rattle.chunk.proofs.Marks.{skipped_more, marked, unmarked}

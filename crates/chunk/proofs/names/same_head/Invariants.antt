@@ -1,4 +1,4 @@
-use Prim.Native.Nat.{◌≤◌, ◌-◌}
+use Prim.Native.Nat.{◌≤◌}
 use Rattle.chunk.specs.Alike.{Alike}
 use Rattle.chunk.proofs.names.same_head.Given as goal
 
