@@ -17,7 +17,8 @@ use Rattle.scale.proofs.scaled.Goals as goal
 tiny : (q n : ℕ) → q < 2 ^ 53 → 73 < n → some 0 ≡ in_u64 (pos (closest (q * 1_000_000) (2 ^ n)))
 tiny q n h k =
     let l : q * 1_000_000 * 2 < 2 ^ 74 = omega arith in
-    sym (below_u64 0 (omega arith)) ∙ ap (λ (z : ℕ). in_u64 (pos z)) (sym (nothing_left (q * 1_000_000) (2 ^ n) (lt_of_lt_of_le l (pow_mono {i = 74} {j = n} k))))
+    let m : q * 1_000_000 * 2 < 2 ^ n = lt_of_lt_of_le l (pow_mono {i = 74} {j = n} k) in
+    sym (below_u64 0 (omega arith)) ∙ ap (λ (z : ℕ). in_u64 (pos z)) (sym (nothing_left (q * 1_000_000) (2 ^ n) m))
 
 -- the product's high half is short
 short : (q high low : ℕ) → q < 2 ^ 53 → high * 2 ^ 64 + low ≡ q * 1_000_000 → high < 2 ^ 30
