@@ -1,5 +1,4 @@
 -- Before a names stand by the place, and from b on behind it.
-use Prim.Native.Nat.{◌-◌}
 use mathlib.Core.Path.{◌≡◌}
 use native.Mathlib.Omega.{arith}
 use Rattle.lookup.specs.Table.{entry_in}

@@ -1,5 +1,4 @@
 -- The names before `low` stand by the place.
-use Prim.Native.Nat.{◌-◌}
 use native.Mathlib.Omega.{arith}
 use Rattle.lookup.specs.Table.{entry_in}
 use Rattle.lookup.proofs.Rows.{by_before, split_less}

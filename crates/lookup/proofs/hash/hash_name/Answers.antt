@@ -1,5 +1,4 @@
 -- The number of the units before i, and that of the rest from there, make the name's.
-use Prim.Native.Nat.{◌-◌}
 use mathlib.Core.Path.{◌∙◌}
 use native.Mathlib.Omega.{arith}
 use Rattle.format.proofs.Text.Units.{length_name}

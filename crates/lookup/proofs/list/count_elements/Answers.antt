@@ -1,5 +1,4 @@
 -- n elements are counted, and the next one is at hand.
-use Prim.Native.Nat.{◌-◌}
 use native.Mathlib.Omega.{arith}
 use mathlib.Core.Path.{sym}
 use mathlib.Core.List.{[]}

@@ -1,5 +1,4 @@
 -- The entries before i are passed; an entry outside of the level ends its children.
-use Prim.Native.Nat.{◌-◌}
 use native.Mathlib.Omega.{arith}
 use mathlib.Core.Path.{refl, sym, ap, ◌∙◌}
 use Rattle.lookup.specs.Table.{entry_in, found}
@@ -45,8 +44,9 @@ loop-i-preserved c =
     let r = c.after-i.ensures in (
       omega (arith, r.below.low, v.0),
       v.1 ∙ elim c.if-p-parent-2.branch [
-          then-p-parent-2+else-e-eq0 w ↦ kid_named (entry_in _) _ _ _ e.result e.ensures l w.if-e-eq0.false
-          | else-p-parent-2 w ↦ kid_other (entry_in _) _ _ _ e.result e.ensures l w.if-p-parent-2.false ]
+        | then-p-parent-2+else-e-eq0 w ↦ kid_named (entry_in _) _ _ _ e.result e.ensures l w.if-e-eq0.false
+        | else-p-parent-2 w ↦ kid_other (entry_in _) _ _ _ e.result e.ensures l w.if-p-parent-2.false
+      ]
           ∙ kids_hop (entry_in _) _ _ _ _ v.0 r,
     )
 

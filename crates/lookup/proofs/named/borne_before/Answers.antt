@@ -1,5 +1,4 @@
 -- No child before entry i has the name.
-use Prim.Native.Nat.{◌-◌}
 use mathlib.Core.Path.{sym, ap, ◌∙◌}
 use native.Mathlib.Omega.{arith}
 use Rattle.lookup.specs.Table.{is_none}

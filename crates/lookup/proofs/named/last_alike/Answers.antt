@@ -1,5 +1,4 @@
 -- The search has come to entry i, past whole children, and found the last of the name before it.
-use Prim.Native.Nat.{◌-◌}
 use mathlib.Core.Path.{sym, ◌∙◌}
 use native.Mathlib.Omega.{arith}
 use Rattle.lookup.specs.Table.{found}
@@ -31,8 +30,9 @@ loop-i-preserved c =
     let b = c.alike.ensures in (
       omega (arith, r.below.low, v.0),
       sought_on _ _ _ _ _ _ _ _ _ l v.0 r (elim c.if-alike.branch [
-        then-alike w ↦ rw w.last-is (sym (last_yes _ _ _ _ _ (sym b ∙ w.if-alike.true)))
-        | else-alike w ↦ rw w.last-is (v.1.by (omega arith) ∙ sym (last_no _ _ _ _ _ (sym b ∙ w.if-alike.false))) ]),
+        | then-alike w ↦ rw w.last-is (sym (last_yes _ _ _ _ _ (sym b ∙ w.if-alike.true)))
+        | else-alike w ↦ rw w.last-is (v.1.by (omega arith) ∙ sym (last_no _ _ _ _ _ (sym b ∙ w.if-alike.false)))
+      ]),
       elim c.if-alike.branch [ then-alike w ↦ rw w.last-is l | else-alike w ↦ rw w.last-is v.2 ],
     )
 

@@ -1,5 +1,4 @@
 -- The search has come to entry i, past whole children, and found the last of the name before it.
-use Prim.Native.Nat.{◌-◌}
 use mathlib.Core.Path.{sym, ◌∙◌}
 use native.Mathlib.Omega.{arith}
 use Rattle.lookup.specs.Table.{found}
@@ -34,8 +33,9 @@ loop-i-preserved c =
     let b = c.bears.ensures in (
       omega (arith, r.below.low, v.0),
       sought_on _ _ _ _ _ _ _ _ _ l v.0 r (elim c.if-bears.branch [
-        then-bears w ↦ rw w.last-is (sym (last_yes _ _ _ _ _ (sym b ∙ w.if-bears.true)))
-        | else-bears w ↦ rw w.last-is (v.1.by (omega arith) ∙ sym (last_no _ _ _ _ _ (sym b ∙ w.if-bears.false))) ]),
+        | then-bears w ↦ rw w.last-is (sym (last_yes _ _ _ _ _ (sym b ∙ w.if-bears.true)))
+        | else-bears w ↦ rw w.last-is (v.1.by (omega arith) ∙ sym (last_no _ _ _ _ _ (sym b ∙ w.if-bears.false)))
+      ]),
       elim c.if-bears.branch [ then-bears w ↦ rw w.last-is l | else-bears w ↦ rw w.last-is v.2 ],
     )
 

@@ -1,5 +1,4 @@
 -- The children before entry i lead where their names are of the part, and have left their marks.
-use Prim.Native.Nat.{◌-◌}
 use mathlib.Core.Path.{refl, sym}
 use mathlib.Core.Bool.{true≢false}
 use native.Mathlib.Omega.{arith}

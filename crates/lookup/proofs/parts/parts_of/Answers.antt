@@ -1,5 +1,4 @@
 -- There are no more children than entries, and from one to 64 parts.
-use Prim.Native.Nat.{◌-◌}
 use native.Mathlib.Omega.{arith}
 use Rattle.lookup.proofs.parts.parts_of.Goals as goal
 use Rattle.lookup.proofs.parts.parts_of.Goals.{then-e-ne0, else-e-ne0}
@@ -26,11 +25,13 @@ loop-i-preserved c =
     let t = c.loop-i-test.true in
     let p = c.requires in (
       elim c.if-e-ne0.branch [
-        then-e-ne0 w ↦ rw w.n-is (omega (arith, l, v.0))
-        | else-e-ne0 w ↦ rw w.n-is (omega (arith, l, v.0)) ],
+        | then-e-ne0 w ↦ rw w.n-is (omega (arith, l, v.0))
+        | else-e-ne0 w ↦ rw w.n-is (omega (arith, l, v.0))
+      ],
       elim c.if-e-ne0.branch [
-        then-e-ne0 w ↦ rw w.n-is (omega (arith, t, v.0, p.1))
-        | else-e-ne0 w ↦ rw w.n-is v.1 ],
+        | then-e-ne0 w ↦ rw w.n-is (omega (arith, t, v.0, p.1))
+        | else-e-ne0 w ↦ rw w.n-is v.1
+      ],
     )
 
 pub overflow_add-result : goal.overflow_add-result

@@ -1,5 +1,5 @@
 -- n places stand before entry i of the level's run.
-use Prim.Native.Nat.{◌<◌, ◌-◌}
+use Prim.Native.Nat.{◌<◌}
 use mathlib.Core.Path.{sym, ◌∙◌}
 use native.Mathlib.Omega.{arith}
 use Rattle.lookup.specs.Table.{entry_in}
@@ -46,8 +46,9 @@ loop-i-preserved c =
       v.1,
       v.2,
       placed_hop _ (entry_in _) _ _ _ _ _ v.0 r (elim c.if-leads_at.branch [
-        then-leads_at w ↦ rw w.n-is (placed_here _ (entry_in _) _ _ _ _ v.3 l (sym b ∙ w.if-leads_at.true))
-        | else-leads_at w ↦ rw w.n-is (placed_skip _ (entry_in _) _ _ _ _ v.3 l (sym b ∙ w.if-leads_at.false)) ]),
+        | then-leads_at w ↦ rw w.n-is (placed_here _ (entry_in _) _ _ _ _ v.3 l (sym b ∙ w.if-leads_at.true))
+        | else-leads_at w ↦ rw w.n-is (placed_skip _ (entry_in _) _ _ _ _ v.3 l (sym b ∙ w.if-leads_at.false))
+      ]),
     )
 
 pub returns : goal.returns

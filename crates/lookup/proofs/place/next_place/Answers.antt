@@ -1,5 +1,5 @@
 -- The places passed are no levels; what lies below an entry is no place.
-use Prim.Native.Nat.{◌<◌, ◌-◌}
+use Prim.Native.Nat.{◌<◌}
 use native.Mathlib.Omega.{arith}
 use mathlib.Core.Path.{refl, sym, ◌∙◌}
 use Rattle.lookup.specs.Table.{entry_in}

@@ -1,5 +1,4 @@
 -- Up to entry i no child has a name; an entry outside of the level ends its children.
-use Prim.Native.Nat.{◌-◌}
 use native.Mathlib.Omega.{arith}
 use mathlib.Core.Path.{sym, ap, ◌∙◌}
 use Rattle.format.specs.declared.Entry.{Entry}
@@ -40,11 +39,12 @@ loop-i-preserved c =
       r.below.high,
       omega (arith, r.below.low, v.1),
       λ s. plain_hop s _ _ _ _ _ _ v.1 r (elim c.if-p-parent-2.branch [
-        then-p-parent-2+else-e-ne0 w ↦
-          rw w.seen-is (plain_more s _ _ _ _ (v.2 s) (ap (λ (x : Entry). x.parent) (sym e) ∙ w.if-p-parent-2.true)
+        | then-p-parent-2+else-e-ne0 w ↦
+            rw w.seen-is (plain_more s _ _ _ _ (v.2 s) (ap (λ (x : Entry). x.parent) (sym e) ∙ w.if-p-parent-2.true)
             (ap (λ (x : Entry). x.units) (sym e) ∙ w.if-e-ne0.false))
         | else-p-parent-2 w ↦
-          rw w.seen-is (plain_other s _ _ _ _ (v.2 s) (λ z. w.if-p-parent-2.false (ap (λ (x : Entry). x.parent) e ∙ z))) ]),
+            rw w.seen-is (plain_other s _ _ _ _ (v.2 s) (λ z. w.if-p-parent-2.false (ap (λ (x : Entry). x.parent) e ∙ z)))
+      ]),
     )
 
 pub returns : goal.returns
