@@ -12,12 +12,11 @@ use lib.ListN.{length}
 use lib.Pow.{pow_mono}
 use borrow.Author.Tests.{eq-eqb, ne_eqb, eqb-true}
 use Rattle.format.proofs.Ground.Tests.{and_left, and_right, same_true, same_refl}
-use Rattle.format.specs.Bytes.{same}
 use Rattle.format.specs.Values.{name_of}
 use Rattle.format.specs.declared.Entry.{Entry}
 use Rattle.lookup.specs.Hash.{hash_of, key_of, Marked}
 use Rattle.lookup.specs.Table.{Ordered, Run, child_named, last_named, is_none}
-use Rattle.lookup.specs.Walks.{leads, PartLeads, Seen, bit, Knows}
+use Rattle.lookup.specs.Walks.{leads, PartLeads, Seen, bit}
 use Rattle.lookup.specs.Values.{unnamed_child, kids, head_of}
 use Rattle.lookup.proofs.Between.{Foremost, between_first, between_empty}
 use Rattle.lookup.proofs.Lists.{no_name, some_name}

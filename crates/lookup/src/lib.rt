@@ -3,7 +3,6 @@
 // looks at that run alone.
 #![tactic(auto)]
 
-
 pub mod child;
 pub mod entry;
 mod hash;

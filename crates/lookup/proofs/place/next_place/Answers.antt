@@ -1,0 +1,77 @@
+-- The places passed are no levels; what lies below an entry is no place.
+use Prim.Native.Nat.{◌<◌}
+use native.Mathlib.Omega.{arith}
+use mathlib.Core.Path.{refl, sym, ◌∙◌}
+use Rattle.lookup.specs.Table.{entry_in}
+use Rattle.lookup.proofs.Leading.{leads_child}
+use Rattle.lookup.proofs.Search.{is_at, is_nothing, at_within}
+use Rattle.lookup.proofs.Turns.{levels_skip, levels_none, levels_found, levels_hop, levels_past}
+use Rattle.lookup.proofs.place.next_place.Goals as goal
+
+pub loop-i-init : goal.loop-i-init
+loop-i-init c = (c.requires.2, refl)
+
+pub after-next-requires : goal.after-next-requires
+after-next-requires c = let p = c.requires in (p.0.rows, omega (arith, c.loop-i-test.true, p.1.below.high))
+
+pub leads_at-requires : goal.leads_at-requires
+leads_at-requires c =
+    let p = c.requires in
+    let v = c.loop-i.invariant in
+    let l = c.loop-i-test.true in
+    (p.0, v.0, l, p.1.below.high, p.3)
+
+pub place_level-requires : goal.place_level-requires
+place_level-requires c =
+    let p = c.requires in
+    let v = c.loop-i.invariant in
+    (p.0, p.1, v.0, c.loop-i-test.true, leads_child _ (entry_in _) _ _ (sym c.leads_at.ensures ∙ c.if-leads_at.true), p.3)
+
+pub returns-in-At : goal.returns-in-At
+returns-in-At c =
+    let p = c.requires in
+    let v = c.loop-i.invariant in
+    let r = c.after-next.ensures in
+    let u = c.place_level.ensures in
+    let t = c.loop-i-test.true in
+    let l : c.loop-i.i < c.args.used = omega (arith, t, p.1.below.high) in (
+      at_within _ _ _ c.in-At.is u.1,
+      (p.1, omega (arith, v.0, r.below.low), p.3),
+      v.1 ∙ levels_found _ (entry_in _) _ _ _ _ _ l
+          (sym c.leads_at.ensures ∙ c.if-leads_at.true)
+          (is_at _ _ _ c.in-At.is u.0) v.0 r,
+    )
+
+pub loop-i-smaller-in-Nothing : goal.loop-i-smaller-in-Nothing
+loop-i-smaller-in-Nothing c =
+    omega (arith, c.after-next.ensures.below.low, c.loop-i-test.true)
+
+pub loop-i-preserved-in-Nothing : goal.loop-i-preserved-in-Nothing
+loop-i-preserved-in-Nothing c =
+    let p = c.requires in
+    let v = c.loop-i.invariant in
+    let r = c.after-next.ensures in
+    let t = c.loop-i-test.true in
+    let l : c.loop-i.i < c.args.used = omega (arith, t, p.1.below.high) in (
+      omega (arith, v.0, r.below.low),
+      v.1 ∙ levels_none _ (entry_in _) _ _ _ l (sym c.leads_at.ensures ∙ c.if-leads_at.true)
+          (is_nothing _ _ c.in-Nothing.is c.place_level.ensures.0)
+          ∙ levels_hop _ (entry_in _) _ _ _ _ v.0 r,
+    )
+
+pub loop-i-smaller : goal.loop-i-smaller
+loop-i-smaller c = omega (arith, c.after-next.ensures.below.low, c.loop-i-test.true)
+
+pub loop-i-preserved : goal.loop-i-preserved
+loop-i-preserved c =
+    let p = c.requires in
+    let v = c.loop-i.invariant in
+    let r = c.after-next.ensures in
+    let l : c.loop-i.i < c.args.used = omega
+    (arith, c.loop-i-test.true, p.1.below.high) in (
+      omega (arith, v.0, r.below.low),
+      v.1 ∙ levels_skip _ (entry_in _) _ _ _ l (sym c.leads_at.ensures ∙ c.if-leads_at.false) ∙ levels_hop _ (entry_in _) _ _ _ _ v.0 r,
+    )
+
+pub returns : goal.returns
+returns c = c.loop-i.invariant.1 ∙ levels_past _ (entry_in _) _ _ _ _ c.requires.1 c.loop-i-test.false

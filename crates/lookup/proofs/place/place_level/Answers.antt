@@ -1,0 +1,62 @@
+-- The value of a name is that of its last child, and unnamed children are a list unless there is only one.
+use native.Mathlib.Omega.{arith}
+use mathlib.Core.Path.{sym, ap, ◌∙◌}
+use Rattle.format.specs.declared.Entry.{Entry}
+use Rattle.format.specs.Values.{name_of}
+use Rattle.lookup.specs.Table.{entry_in, found}
+use Rattle.lookup.proofs.Leading.{last_alone}
+use Rattle.lookup.proofs.Search.{is_at, is_nothing, at_within}
+use Rattle.lookup.proofs.Turns.{place_unnamed, place_named, place_absent}
+use Rattle.lookup.proofs.place.place_level.Goals as goal
+
+pub returns-then-e-eq0 : goal.returns-then-e-eq0
+returns-then-e-eq0 c =
+    let e = c.entry_at-e in
+    (place_unnamed _ (entry_in _) _ _ _ e.result e.ensures _ c.if-e-eq0.true (c.unnamed_level.ensures.0 _), c.unnamed_level.ensures.1)
+
+pub alone-requires : goal.alone-requires
+alone-requires c =
+    let p = c.requires in (
+      omega (arith, p.0.rows.room, p.3, p.1.below.high),
+      p.0.lie _ (omega (arith, p.3, p.1.below.high)),
+      rw (← c.entry_at-e.ensures) (omega (arith, c.if-e-eq0.false)),
+      p.5.some,
+      p.5.few,
+    )
+
+pub returns-then-alone : goal.returns-then-alone
+unfolding name_of
+returns-then-alone c =
+    let p = c.requires in
+    let e = c.entry_at-e in
+    let u = c.if-e-eq0.false in
+    let m = p.5.clean _ (c.alone.ensures c.if-alone.true) in
+    let z = last_alone _ (entry_in _) _ _ _ _ m p.2 p.3 p.4 (λ z. u (ap (λ (y : Entry). y.units) e.ensures ∙ z)) in
+    (place_named _ (entry_in _) _ _ _ e.result e.ensures _ _ _ p.1 u (sym (rw e.ensures z)) (c.level_at.ensures.0 _), c.level_at.ensures.1)
+
+pub level_at-requires-in-At : goal.level_at-requires-in-At
+level_at-requires-in-At c = (
+  c.requires.0.rows,
+  at_within _ _ _ c.in-At.is c.last_of.ensures.1,
+)
+
+pub returns-in-Nothing : goal.returns-in-Nothing
+unfolding found name_of
+returns-in-Nothing c =
+    let e = c.entry_at-e in
+    let l = is_nothing _ _ c.in-Nothing.is c.last_of.ensures.0 in (
+      place_absent _ (entry_in _) _ _ _ e.result e.ensures _ c.requires.1
+          c.if-e-eq0.false (rw e.ensures l),
+      tt,
+    )
+
+pub returns-in-At : goal.returns-in-At
+unfolding name_of
+returns-in-At c =
+    let e = c.entry_at-e in
+    let l = is_at _ _ _ c.in-At.is c.last_of.ensures.0 in (
+      place_named _ (entry_in _) _ _ _ e.result e.ensures _ _ _
+          c.requires.1
+          c.if-e-eq0.false (rw e.ensures l) (c.level_at-in-At.ensures.0 _),
+      c.level_at-in-At.ensures.1,
+    )
