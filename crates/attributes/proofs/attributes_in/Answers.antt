@@ -1,0 +1,35 @@
+-- `attributes_in`: the six readings, and what is made of them.
+use mathlib.Core.Path.{◌≡◌, sym, ap, ◌∙◌}
+use Rattle.format.specs.Answer.{and_then}
+use Rattle.format.specs.Bytes.{ascii}
+use Rattle.format.specs.Numbers.{below32}
+use Rattle.format.specs.Attributes.{uncompressed}
+use Rattle.lookup.specs.Table.{entries_in}
+use Rattle.attributes.specs.Parsed.{answer, judged_by, attributes_in}
+use Rattle.attributes.proofs.Chain.{of_readings}
+use borrow.Author.Rules.{rules}
+use Rattle.attributes.proofs.attributes_in.Goals as goal
+use Rattle.attributes.proofs.attributes_in.Goals.{After-five}
+
+-- the level's attributes, after the five numbers
+readings : (c : After-five)
+    → let a = c.args in
+    attributes_in a.file.now (entries_in a.table.now a.used) a.parent
+    ≡ and_then (answer c.five.result) (judged_by c.is_plain-plain.result)
+unfolding ascii
+readings c =
+    of_readings _ _ _ _ _ _ _ _ _ _
+    c.get_u64-width.ensures
+    c.get_u64-stride.ensures
+    c.get_u64-height.ensures
+    c.get_u64-components.ensures
+    (c.to_u32-bits.ensures ∙ ap below32 c.get_u64.ensures)
+    (c.is_plain-plain.ensures ∙ ap uncompressed c.get_i64.ensures) c.five.ensures
+
+pub returns-in-Refused : goal.returns-in-Refused
+unfolding and_then
+returns-in-Refused c = sym (rw c.in-Refused.is at (readings (goal.at.returns-in-Refused c).After-five))
+
+pub returns-in-Is : goal.returns-in-Is
+unfolding and_then
+returns-in-Is c = c.judged.ensures ∙ sym (rw c.in-Is.is at (readings (goal.at.returns-in-Is c).After-five))
