@@ -1,9 +1,10 @@
 -- The entries passed have given the name `last`; the rest is what stands next.
 use native.Mathlib.Omega.{arith}
+use borrow.Author.Rules.{rules}
 use Rattle.chunk.specs.Scan.{Entry}
 use Rattle.chunk.proofs.Scan.{scan_start, scan_broken, scan_end, scan_hit, scan_miss}
 use Rattle.chunk.proofs.map.look_up.Goals as goal
-use Rattle.chunk.proofs.map.look_up.Goals.{In-Named, then-is_at, else-is_at}
+use Rattle.chunk.proofs.map.look_up.Goals.{In-Named}
 
 -- what the entry that stands next is
 entry : (c : In-Named)
@@ -39,10 +40,7 @@ loop-n-preserved c =
     let h = c.loop-n.invariant in
     let e = entry (goal.at.loop-n-preserved c).In-Named in
     let s = c.is_at.ensures in
-    elim c.if-is_at.branch [
-      | then-is_at w ↦ scan_hit h e s w.if-is_at.true w.le8.ensures w.last-is
-      | else-is_at w ↦ scan_miss h e s w.if-is_at.false w.last-is
-    ]
+    search (rules, scan_hit h e s, scan_miss h e s)
 
 pub returns-in-End : goal.returns-in-End
 returns-in-End c = scan_end c.loop-n.invariant (rw c.in-End.is at c.next_entry.ensures.1)
