@@ -160,6 +160,7 @@ module _ (s : List ℕ) (u : Summary) (buf : List ℕ) where
 
   -- the records of absent frames, and then the map's entries
   pub made_register : Ready s u (length buf) → {count : ℕ} {m mid out : List ℕ} → count ≡ frames (loops_of u) → m ≡ map_of s u
-      → ((m : List ℕ) → mid ≡ over (register_from count m [] (loops_of u) 0) buf) → ((es : List MapEntry) → map_entries m ≡ given es → Taken m count [] es mid out)
+      → ((m : List ℕ) → mid ≡ over (register_from count m [] (loops_of u) 0) buf)
+      → ((es : List MapEntry) → map_entries m ≡ given es → Taken m count [] es mid out)
       → Promised 0 out
   made_register g {m = m} ec em f h = made g ((h g.entries (ap map_entries em ∙ g.map)).taken (loops_of u) buf (f m) ∙ rw (ec, em) refl)
