@@ -3,18 +3,20 @@
 // printed; rust/replay/src/step.rs says how a step is stored.
 #![tactic(auto)]
 
-ghost use Rattle.std.specs.Prelude.{◌+◌, ◌≤◌, length};
+ghost use Rattle.std.specs.Prelude.{◌+◌, ◌≤◌, length, IfOk};
 
 use border::nd2_read_plane;
 use capi::{nd2_channels, nd2_picometres, nd2_sheet_read};
 use cursor::{le4, le8, put8};
 use format::{Axis, Loop, Range, Summary};
 use layout::put_summary;
-use libc::STDOUT_FILENO;
 use open::open;
 use plane::plane;
 use register::register;
 use sheet::sheet;
+use std::fs::File;
+use std::io;
+use std::io::{Read, Write};
 use sum::{fold_bytes, fold_summary};
 use tree_call::tree;
 
@@ -75,11 +77,26 @@ struct State {
 
 // ---- reading
 
+// Reads until buf is full or the input ends; how many bytes it put at the start of buf.
+fn read_full(input: &mut impl Read, buf: &mut [u8]) -> io::Result<usize>
+    ensures { IfOk result (λ n. n ≤ length buf.new) }
+{
+    let mut done = 0;
+    while done < buf.len() {
+        let n = input.read(&mut buf[done..])?;
+        if n == 0 {
+            break;
+        }
+        done += n;
+    }
+    Ok(done)
+}
+
 // The next step; END where none is left.
-fn next_step(fd: i32) -> Step {
+fn next_step(input: &mut impl Read) -> io::Result<Step> {
     let mut s = [0u8; 48];
-    io::read_full(fd, &mut s);
-    Step {
+    read_full(input, &mut s)?;
+    Ok(Step {
         kind: le4(&s, 0),
         size: le4(&s, 4) as usize,
         table: le4(&s, 8) as usize,
@@ -88,7 +105,7 @@ fn next_step(fd: i32) -> Step {
         t: le8(&s, 24),
         c: le8(&s, 32),
         z: le8(&s, 40),
-    }
+    })
 }
 
 fn axis_of(n: u64) -> Axis {
@@ -141,18 +158,15 @@ fn summary_in(s: &[u8]) -> Summary
 // ---- printing
 
 // A label's line.
-fn show_label(text: &[u8]) {
-    io::write_all(STDOUT_FILENO, text);
-    io::write_all(STDOUT_FILENO, b"\n");
+fn show_label(out: &mut impl Write, text: &[u8]) -> io::Result<()> {
+    out.write_all(text)?;
+    out.write_all(b"\n")
 }
 
 // An answer's line.
-fn show(call: &[u8], number: u32, sum: u64) {
-    io::write_all(STDOUT_FILENO, call);
-    io::print_decimal(STDOUT_FILENO, number as u64);
-    io::write_all(STDOUT_FILENO, b" ");
-    io::print_hex(STDOUT_FILENO, sum, 8);
-    io::write_all(STDOUT_FILENO, b"\n");
+fn show(out: &mut impl Write, call: &[u8], number: u32, sum: u64) -> io::Result<()> {
+    out.write_all(call)?;
+    writeln!(out, "{number} {sum:08x}")
 }
 
 // ---- asking
@@ -165,25 +179,37 @@ fn fill(s: &mut [u8]) {
     }
 }
 
-fn ask_open(file: &[u8], table: &mut [u8]) -> Summary {
+fn ask_open(out: &mut impl Write, file: &[u8], table: &mut [u8]) -> io::Result<Summary> {
     let o = open(file, table);
     let u = o.summary;
-    show(b"open ", o.number, fold_bytes(fold_summary(u), table));
-    u
+    show(out, b"open ", o.number, fold_bytes(fold_summary(u), table))?;
+    Ok(u)
 }
 
-fn ask_plane(file: &[u8], u: Summary, q: Step, buffer: &mut [u8]) {
+fn ask_plane(
+    out: &mut impl Write,
+    file: &[u8],
+    u: Summary,
+    q: Step,
+    buffer: &mut [u8],
+) -> io::Result<()> {
     let n = plane(file, u, q.scene, q.t, q.c, q.z, buffer);
-    show(b"plane ", n, fold_bytes(0, buffer));
+    show(out, b"plane ", n, fold_bytes(0, buffer))
 }
 
-fn ask_sheet(file: &[u8], u: Summary, q: Step, lent: &mut [u8]) {
+fn ask_sheet(
+    out: &mut impl Write,
+    file: &[u8],
+    u: Summary,
+    q: Step,
+    lent: &mut [u8],
+) -> io::Result<()> {
     let n = sheet(file, u, q.scene, q.t, q.c, q.z, lent);
-    show(b"sheet ", n, fold_bytes(0, lent));
+    show(out, b"sheet ", n, fold_bytes(0, lent))
 }
 
 // A sheet that is read, as the C interface has it: width, height and bits are lent numbers.
-fn ask_read(lent: &[u8], samples: &mut [u8]) {
+fn ask_read(out: &mut impl Write, lent: &[u8], samples: &mut [u8]) -> io::Result<()> {
     let mut width: u64 = 1;
     let mut height: u64 = 1;
     let mut bits: u64 = 1;
@@ -192,141 +218,188 @@ fn ask_read(lent: &[u8], samples: &mut [u8]) {
     put8(&mut sizes, 0, width);
     put8(&mut sizes, 8, height);
     put8(&mut sizes, 16, bits);
-    show(b"read ", n, fold_bytes(fold_bytes(0, &sizes), samples));
+    show(out, b"read ", n, fold_bytes(fold_bytes(0, &sizes), samples))
 }
 
-fn ask_tree(file: &[u8], u: Summary, name: &[u8], table: &mut [u8]) {
+fn ask_tree(
+    out: &mut impl Write,
+    file: &[u8],
+    u: Summary,
+    name: &[u8],
+    table: &mut [u8],
+) -> io::Result<()> {
     let n = tree(file, u, name, table);
-    show(b"tree ", n, fold_bytes(0, table));
+    show(out, b"tree ", n, fold_bytes(0, table))
 }
 
-fn ask_register(file: &[u8], u: Summary, buffer: &mut [u8]) {
+fn ask_register(
+    out: &mut impl Write,
+    file: &[u8],
+    u: Summary,
+    buffer: &mut [u8],
+) -> io::Result<()> {
     let n = register(file, u, buffer);
-    show(b"register ", n, fold_bytes(0, buffer));
+    show(out, b"register ", n, fold_bytes(0, buffer))
 }
 
-fn ask_border(file: &[u8], q: Step, table: &mut [u8], buffer: &mut [u8]) {
+fn ask_border(
+    out: &mut impl Write,
+    file: &[u8],
+    q: Step,
+    table: &mut [u8],
+    buffer: &mut [u8],
+) -> io::Result<()> {
     let n = nd2_read_plane(file, table, q.scene, q.t, q.c, q.z, buffer);
-    show(b"border ", n, fold_bytes(fold_bytes(0, table), buffer));
+    show(out, b"border ", n, fold_bytes(fold_bytes(0, table), buffer))
 }
 
 // The channels, as the C interface has them: summary and records are lent bytes.
-fn ask_channels(file: &[u8], u: Summary, table: &mut [u8], row: &mut [u8]) {
+fn ask_channels(
+    out: &mut impl Write,
+    file: &[u8],
+    u: Summary,
+    table: &mut [u8],
+    row: &mut [u8],
+) -> io::Result<()> {
     let mut summary = [0u8; 144];
     put_summary(&mut summary, u);
     let n = nd2_channels(file, &summary, table, row);
-    show(b"channels ", n, fold_bytes(fold_bytes(0, row), table));
+    show(out, b"channels ", n, fold_bytes(fold_bytes(0, row), table))
 }
 
 // The pixel size in picometres, as the C interface has it: the summary is lent bytes, and the size a lent number.
-fn ask_picometres(file: &[u8], u: Summary, table: &mut [u8]) {
+fn ask_picometres(
+    out: &mut impl Write,
+    file: &[u8],
+    u: Summary,
+    table: &mut [u8],
+) -> io::Result<()> {
     let mut summary = [0u8; 144];
     put_summary(&mut summary, u);
     let mut picometres: u64 = 1;
     let n = nd2_picometres(file, &summary, table, &mut picometres);
     let mut size = [0u8; 8];
     put8(&mut size, 0, picometres);
-    show(b"picometres ", n, fold_bytes(fold_bytes(0, &size), table));
+    show(
+        out,
+        b"picometres ",
+        n,
+        fold_bytes(fold_bytes(0, &size), table),
+    )
 }
 
 // The question of a step that is lent a buffer alone; `text` is what follows the step.
-fn ask_buffer(file: &[u8], u: Summary, q: Step, text: &[u8], buffer: &mut [u8]) {
+fn ask_buffer(
+    out: &mut impl Write,
+    file: &[u8],
+    u: Summary,
+    q: Step,
+    text: &[u8],
+    buffer: &mut [u8],
+) -> io::Result<()> {
     if q.kind == PLANE {
-        ask_plane(file, u, q, buffer);
-        return;
+        return ask_plane(out, file, u, q, buffer);
     }
     if q.kind == REGISTER {
-        ask_register(file, u, buffer);
-        return;
+        return ask_register(out, file, u, buffer);
     }
     if q.kind == SHEET {
-        ask_sheet(file, u, q, buffer);
-        return;
+        return ask_sheet(out, file, u, q, buffer);
     }
     if q.kind == READ_SHEET {
-        ask_read(text, buffer);
+        return ask_read(out, text, buffer);
     }
+    Ok(())
 }
 
 // The question of a step, over what is lent to it. The summary afterwards is the one that opening gave, if that was asked.
 fn ask(
+    out: &mut impl Write,
     file: &[u8],
     u: Summary,
     q: Step,
     text: &[u8],
     table: &mut [u8],
     buffer: &mut [u8],
-) -> Summary {
+) -> io::Result<Summary> {
     if q.kind == OPEN {
-        return ask_open(file, table);
+        return ask_open(out, file, table);
     }
     if q.kind == TREE {
-        ask_tree(file, u, text, table);
-        return u;
+        ask_tree(out, file, u, text, table)?;
+        return Ok(u);
     }
     if q.kind == PICOMETRES {
-        ask_picometres(file, u, table);
-        return u;
+        ask_picometres(out, file, u, table)?;
+        return Ok(u);
     }
     if q.kind == BORDER {
-        ask_border(file, q, table, buffer);
-        return u;
+        ask_border(out, file, q, table, buffer)?;
+        return Ok(u);
     }
     if q.kind == CHANNELS {
-        ask_channels(file, u, table, buffer);
-        return u;
+        ask_channels(out, file, u, table, buffer)?;
+        return Ok(u);
     }
-    ask_buffer(file, u, q, text, buffer);
-    u
+    ask_buffer(out, file, u, q, text, buffer)?;
+    Ok(u)
 }
 
 // ---- one step after the other
 
 // A label, a summary or a question, once the bytes that follow the step are read.
 fn take_with(
-    fd: i32,
+    input: &mut impl Read,
+    out: &mut impl Write,
     file: &[u8],
     u: Summary,
     q: Step,
     text: &mut [u8],
     table: &mut [u8],
     buffer: &mut [u8],
-) -> Summary {
-    io::read_full(fd, text);
+) -> io::Result<Summary> {
+    read_full(input, text)?;
     if q.kind == LABEL {
-        show_label(text);
-        return u;
+        show_label(out, text)?;
+        return Ok(u);
     }
     if q.kind == SUMMARY {
         if text.len() < 112 {
-            return u;
+            return Ok(u);
         }
-        return summary_in(text);
+        return Ok(summary_in(text));
     }
     fill(table);
     fill(buffer);
-    ask(file, u, q, text, table, buffer)
+    ask(out, file, u, q, text, table, buffer)
 }
 
 // The same with as many bytes lent as the step says.
-fn take_lent(fd: i32, file: &[u8], u: Summary, q: Step) -> Summary {
+fn take_lent(
+    input: &mut impl Read,
+    out: &mut impl Write,
+    file: &[u8],
+    u: Summary,
+    q: Step,
+) -> io::Result<Summary> {
     let n = q.size;
     let t = q.table;
     let b = q.buffer;
     if MOST < n {
-        return u;
+        return Ok(u);
     }
     if MOST < t {
-        return u;
+        return Ok(u);
     }
     if MOST < b {
-        return u;
+        return Ok(u);
     }
-    let mut text = io::large_buffer();
-    let mut table = io::large_buffer();
-    let mut buffer = io::large_buffer();
+    let mut text = [0u8; MOST];
+    let mut table = [0u8; MOST];
+    let mut buffer = [0u8; MOST];
     take_with(
-        fd,
+        input,
+        out,
         file,
         u,
         q,
@@ -337,25 +410,31 @@ fn take_lent(fd: i32, file: &[u8], u: Summary, q: Step) -> Summary {
 }
 
 // Reads the file that follows a step; its length.
-fn read_file(fd: i32, file: &mut [u8], size: usize) -> usize {
+fn read_file(input: &mut impl Read, file: &mut [u8], size: usize) -> io::Result<usize> {
     if file.len() < size {
-        return 0;
+        return Ok(0);
     }
-    io::read_full(fd, &mut file[..size])
+    read_full(input, &mut file[..size])
 }
 
-fn take(fd: i32, file: &mut [u8], s: State, q: Step) -> State {
+fn take(
+    input: &mut impl Read,
+    out: &mut impl Write,
+    file: &mut [u8],
+    s: State,
+    q: Step,
+) -> io::Result<State> {
     let u = s.summary;
     if q.kind == FILE {
-        let len = read_file(fd, file, q.size);
-        return State { len, summary: u };
+        let len = read_file(input, file, q.size)?;
+        return Ok(State { len, summary: u });
     }
     let len = s.len;
     if file.len() < len {
-        return s;
+        return Ok(s);
     }
-    let summary = take_lent(fd, &file[..len], u, q);
-    State { len, summary }
+    let summary = take_lent(input, out, &file[..len], u, q)?;
+    Ok(State { len, summary })
 }
 
 fn no_summary() -> Summary {
@@ -382,27 +461,24 @@ fn no_summary() -> Summary {
 }
 
 // A loop has to end, and nothing says that a file does: it counts its turns, more than any list has steps.
-fn replay(fd: i32) {
-    let mut file = io::large_buffer();
+fn replay(input: &mut impl Read, out: &mut impl Write) -> io::Result<()> {
+    let mut file = [0u8; MOST];
     let summary = no_summary();
     let mut s = State { len: 0, summary };
     let mut turns: u64 = 0;
     while turns < 1_000_000 {
-        let q = next_step(fd);
+        let q = next_step(input)?;
         if q.kind == END {
-            return;
+            return Ok(());
         }
-        s = take(fd, &mut file, s, q);
+        s = take(input, out, &mut file, s, q)?;
         turns += 1;
     }
+    Ok(())
 }
 
-fn main() {
-    let fd = os::open_read(b"cases");
-    if fd < 0 {
-        os::fail(b"cases");
-        return;
-    }
-    replay(fd);
-    libc::close(fd);
+fn main(rt: HostRuntime) -> io::Result<()> {
+    let mut input = File::open(&rt, "cases")?;
+    let mut out = rt.stdout();
+    replay(&mut input, &mut out)
 }

@@ -1,0 +1,9 @@
+-- `twos` hands on numbers below 4 and ends: the pairs left fall. Assumes nothing.
+use Prim.Native.Nat.{◌-◌}
+use Rattle.names.proofs.twos.Given as goal
+
+abbrev pub invariant-loop-m : goal.invariant-loop-m
+invariant-loop-m g l = Unit {0}
+
+abbrev pub decreases-loop-m : goal.decreases-loop-m
+decreases-loop-m g l = 256 - l.m
