@@ -150,7 +150,8 @@ spread_value levels s e n j l = rw (get_elem_firsts n e j l) (go (eqb (e j).kind
     deep true = refl
     deep false = refl
 
-    go : (b : Bool) → spread (value_if b (λ _. collapse val j slots) (leaf s (e j))) j ≡ first_ones (b && only_unnamed slots) (elements val (unnamed_in slots)) j
+    go : (b : Bool)
+        → spread (value_if b (λ _. collapse val j slots) (leaf s (e j))) j ≡ first_ones (b && only_unnamed slots) (elements val (unnamed_in slots)) j
     go false = spread_leaf s (e j) j
     go true = rw collapse_is (deep (only_unnamed slots))
 

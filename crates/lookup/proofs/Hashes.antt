@@ -53,7 +53,8 @@ module _ (marks : List ℕ) (h : ℕ) (long : length marks ≡ 2048) (b : h < 2 
   pub print_others : get_or marks (mark_at h) 0 ≡ 0 → (g : ℕ) → Marked marks g → Marked (set marks (mark_at h) (print_of h)) g
   print_others z g m = go (ℕ_discrete (mark_at g) (mark_at h)) m.there
     where
-      go : Dec (mark_at g ≡ mark_at h) → (get_or marks (mark_at g) 0 ≡ print_of g) ⊎ (get_or marks (mark_at g) 0 ≡ 255) → Marked (set marks (mark_at h) (print_of h)) g
+      go : Dec (mark_at g ≡ mark_at h) → (get_or marks (mark_at g) 0 ≡ print_of g) ⊎ (get_or marks (mark_at g) 0 ≡ 255)
+          → Marked (set marks (mark_at h) (print_of h)) g
       go (yes y) (inl x) = absurd (let w : get_or marks (mark_at g) 0 ≡ 0 = rw y z in omega arith)
       go (yes y) (inr x) = absurd (let w : get_or marks (mark_at g) 0 ≡ 0 = rw y z in omega arith)
       go (no y) x = record { there = rw (get_or-set_other marks (mark_at h) (mark_at g) (print_of h) 0 y) x }

@@ -140,7 +140,8 @@ module _ (s : List ℕ) (e : ℕ → Entry) (p : ℕ) where
 
     -- entry i is passed, and marks stay
     pub seen_more : (i : ℕ) (marks marks' : List ℕ) → Seen s e p parts part i marks → ((g : ℕ) → Marked marks g → Marked marks' g)
-        → (key_of (name_of s (e i)) % parts ≡ part → (e i).parent ≡ p → ((e i).units ≡ 0 → ⊥) → (leads s e p i ≡ true) × Marked marks' (hash_of (name_of s (e i))))
+        → (key_of (name_of s (e i)) % parts ≡ part → (e i).parent ≡ p → ((e i).units ≡ 0 → ⊥)
+        → (leads s e p i ≡ true) × Marked marks' (hash_of (name_of s (e i))))
         → Seen s e p parts part (i + 1) marks'
     seen_more i marks marks' h m f = record { leading = λ k a b. go k a b (dec_lt k i); marked = λ k a b. at k a b (dec_lt k i) }
       where
@@ -155,8 +156,8 @@ module _ (s : List ℕ) (e : ℕ → Entry) (p : ℕ) where
         at k a b (no y) c d u = let x : k ≡ i = omega (arith, y) in rw x (f (rw x at c) (rw x at d) (rw x at u)).1
 
     -- with no mark there, no child before has the name
-    pub new_leads : (n i : ℕ) (marks : List ℕ) → Ordered e n → i < n → Seen s e p parts part i marks → key_of (name_of s (e i)) % parts ≡ part → (e i).parent ≡ p
-        → ((e i).units ≡ 0 → ⊥) → (Marked marks (hash_of (name_of s (e i))) → ⊥) → leads s e p i ≡ true
+    pub new_leads : (n i : ℕ) (marks : List ℕ) → Ordered e n → i < n → Seen s e p parts part i marks → key_of (name_of s (e i)) % parts ≡ part
+        → (e i).parent ≡ p → ((e i).units ≡ 0 → ⊥) → (Marked marks (hash_of (name_of s (e i))) → ⊥) → leads s e p i ≡ true
     new_leads n i marks o l h c d u f = none_leads i d (last_nowhere s e p (name_of s (e i)) i (λ k a. fails _ (other k a)))
       where
         other : (k : ℕ) → k < i → child_named s e p (name_of s (e i)) k ≡ true → ⊥

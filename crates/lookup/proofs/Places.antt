@@ -190,7 +190,8 @@ keys_leads s e p (suc n) =
     pick true = sym (append-nil (keys r))
     pick false = refl
 
-    go : (b : Bool) → keys (cond b (put (name_of s (e n)) n r) r) ≡ keys r ++ names_of s e (cond (b && is_none (last_named s e p (name_of s (e n)) n)) (n ∷ []) [])
+    go : (b : Bool)
+        → keys (cond b (put (name_of s (e n)) n r) r) ≡ keys r ++ names_of s e (cond (b && is_none (last_named s e p (name_of s (e n)) n)) (n ∷ []) [])
     go true = keys_put (name_of s (e n)) n r (good_slots s e p n) ∙ pick (taken (name_of s (e n)) r) ∙ rw taken_last
     go false = sym (append-nil (keys r))
 
