@@ -1,18 +1,19 @@
 //! Finds libnd2.a, the proved reader, and links it.
 //!
-//! ND2_STATICLIB_DIR names a folder that has it, or libcapi.a and libborder.a as `rt staticlib` writes them. One that is not
+//! ND2_STATICLIB_DIR names a folder that has it, or the libcapi.a and libborder.a of a build that had two. One that is not
 //! absolute is looked for from the folder that cargo was called in, from this package's, from rust/ and from the
 //! repository's root. Otherwise it is target/lib/libnd2.a of the repository, and c/library writes it there: where it is
-//! missing, and where a crate's file is newer. Without `rt` the one that is there is taken.
+//! missing, and where crates.txt or a crate's file is newer. Without `rt` the one that is there is taken.
 
 use std::env;
+use std::ffi::OsStr;
 use std::fs;
 use std::path::{Path, PathBuf};
 use std::process::{Command, Output};
 use std::time::SystemTime;
 
 const DIR: &str = "ND2_STATICLIB_DIR";
-/// The libraries of a folder: the one that has every call, or those that it is made of.
+/// The libraries of a folder: the one that has every call, or the two that builds before it had.
 const LIBRARIES: [&[&str]; 2] = [&["nd2"], &["capi", "border"]];
 /// What a shell answers where a program is not there.
 const NO_PROGRAM: i32 = 127;
@@ -55,11 +56,13 @@ fn library_folder() -> Result<PathBuf, String> {
     if let Some(folder) = env::var_os(DIR).filter(|folder| !folder.is_empty()) {
         return given(Path::new(&folder), &root);
     }
-    let crates = root.join("crates");
-    println!("cargo:rerun-if-changed={}", crates.display());
+    let sources = sources(&root);
+    for source in &sources {
+        println!("cargo:rerun-if-changed={}", source.display());
+    }
     let folder = root.join("target/lib");
     let library = library(&folder, "nd2");
-    if stale(&library, &crates) {
+    if stale(&library, &sources) {
         prove(&root, &library)?;
     }
     Ok(folder)
@@ -110,10 +113,24 @@ fn repository() -> Result<PathBuf, String> {
     root.map_err(|error| format!("the repository's root: {error}"))
 }
 
-/// Whether the library is missing, or a file of the crates is newer.
-fn stale(library: &Path, crates: &Path) -> bool {
+/// What the library is made from: the list of the crates, and what each has but for out/, where `rt` writes.
+fn sources(root: &Path) -> Vec<PathBuf> {
+    let crates = entries(&root.join("crates"));
+    let parts = crates.iter().flat_map(|folder| entries(folder));
+    let own = parts.filter(|part| part.file_name() != Some(OsStr::new("out")));
+    let list = root.join("crates.txt");
+    own.chain([list]).collect()
+}
+
+fn entries(folder: &Path) -> Vec<PathBuf> {
+    let found = fs::read_dir(folder).into_iter().flatten().flatten();
+    found.map(|entry| entry.path()).collect()
+}
+
+/// Whether the library is missing, or one of these is newer.
+fn stale(library: &Path, sources: &[PathBuf]) -> bool {
     match changed(library) {
-        Some(written) => newest(crates) > Some(written),
+        Some(written) => sources.iter().filter_map(|source| newest(source)).max() > Some(written),
         None => true,
     }
 }
@@ -122,18 +139,12 @@ fn changed(path: &Path) -> Option<SystemTime> {
     fs::metadata(path).and_then(|data| data.modified()).ok()
 }
 
-/// When the newest file below a folder was changed.
-fn newest(folder: &Path) -> Option<SystemTime> {
-    let entries = fs::read_dir(folder).ok()?.flatten();
-    let times = entries.filter_map(|entry| {
-        let path = entry.path();
-        if path.is_dir() {
-            newest(&path)
-        } else {
-            changed(&path)
-        }
-    });
-    times.max()
+/// When the newest of a file, or of the files below a folder, was changed.
+fn newest(path: &Path) -> Option<SystemTime> {
+    if !path.is_dir() {
+        return changed(path);
+    }
+    entries(path).iter().filter_map(|entry| newest(entry)).max()
 }
 
 /// Proves the reader and writes its library.

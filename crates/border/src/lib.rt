@@ -18,8 +18,7 @@ use open::open;
 use plane::plane;
 
 // Opens a file and reads the plane of component c at a point; 0, or the number of the first refusal. It leaves zeros in the table.
-#[unsafe(no_mangle)]
-pub extern "C" fn nd2_read_plane(
+pub fn nd2_read_plane(
     file: &[u8],
     table: &mut [u8],
     scene: u64,

@@ -41,8 +41,7 @@ use sheet::{sheet, sheet_read};
 use tree_call::tree;
 
 // Opens a file, and stores its summary: 0, or the number of the first refusal and a summary of zeros. It leaves zeros in the table.
-#[unsafe(no_mangle)]
-pub extern "C" fn nd2_open(file: &[u8], table: &mut [u8], summary: &mut [u8]) -> u32
+pub fn nd2_open(file: &[u8], table: &mut [u8], summary: &mut [u8]) -> u32
     ensures number { result ≡ open_on file.now table.old summary.old }
     ensures table { table.new ≡ zeros (length table.old) }
     ensures summary { result ≡ 0 → summary.new ≡ summary_bytes (open_call file.now table.old).summary }
@@ -75,8 +74,7 @@ pub extern "C" fn nd2_open(file: &[u8], table: &mut [u8], summary: &mut [u8]) ->
 }
 
 // The plane of component c at a point, row by row, into the lent bytes; 0, or the number of the first refusal and no byte changed.
-#[unsafe(no_mangle)]
-pub extern "C" fn nd2_plane(
+pub fn nd2_plane(
     file: &[u8],
     summary: &[u8],
     scene: u64,
@@ -105,8 +103,7 @@ pub extern "C" fn nd2_plane(
 }
 
 // The sheet of the plane of component c at a point, into the lent bytes; 0, or the number of the first refusal and no byte changed.
-#[unsafe(no_mangle)]
-pub extern "C" fn nd2_sheet(
+pub fn nd2_sheet(
     file: &[u8],
     summary: &[u8],
     scene: u64,
@@ -136,8 +133,7 @@ pub extern "C" fn nd2_sheet(
 }
 
 // The samples of a sheet into the lent bytes, and its sizes and bits; 0, or the number of the first refusal, no byte changed and the three numbers 0.
-#[unsafe(no_mangle)]
-pub extern "C" fn nd2_sheet_read(
+pub fn nd2_sheet_read(
     lent: &[u8],
     samples: &mut [u8],
     width: &mut u64,
@@ -165,8 +161,7 @@ pub extern "C" fn nd2_sheet_read(
 }
 
 // The entries of the tree under a name, zeros behind them; 0, or the number of the first refusal and a table of zeros.
-#[unsafe(no_mangle)]
-pub extern "C" fn nd2_tree(file: &[u8], summary: &[u8], name: &[u8], table: &mut [u8]) -> u32
+pub fn nd2_tree(file: &[u8], summary: &[u8], name: &[u8], table: &mut [u8]) -> u32
     ensures number { result ≡ (tree_on file.now summary.now name.now table.old).number }
     ensures buffer { table.new ≡ (tree_on file.now summary.now name.now table.old).buffer }
     ensures cleared { Refuses result → table.new ≡ zeros (length table.old) }
@@ -220,8 +215,7 @@ fn put_row(file: &[u8], u: Summary, table: &mut [u8], row: &mut [u8]) -> u32
 }
 
 // A record for each component, zeros behind these; 0, or the number of the first refusal and a row of zeros. It leaves zeros in the table.
-#[unsafe(no_mangle)]
-pub extern "C" fn nd2_channels(file: &[u8], summary: &[u8], table: &mut [u8], row: &mut [u8]) -> u32
+pub fn nd2_channels(file: &[u8], summary: &[u8], table: &mut [u8], row: &mut [u8]) -> u32
     ensures number { result ≡ (channels_on file.now summary.now table.old (length row.old)).number }
     ensures row { row.new ≡ (channels_on file.now summary.now table.old (length row.old)).buffer }
     ensures table { table.new ≡ zeros (length table.old) }
@@ -245,8 +239,7 @@ pub extern "C" fn nd2_channels(file: &[u8], summary: &[u8], table: &mut [u8], ro
 }
 
 // The record of every frame, in order, into the lent bytes; 0, or the number of the first refusal and no byte changed.
-#[unsafe(no_mangle)]
-pub extern "C" fn nd2_register(file: &[u8], summary: &[u8], buffer: &mut [u8]) -> u32
+pub fn nd2_register(file: &[u8], summary: &[u8], buffer: &mut [u8]) -> u32
     ensures number { result ≡ (register_on file.now summary.now buffer.old).number }
     ensures buffer { buffer.new ≡ (register_on file.now summary.now buffer.old).buffer }
     ensures untouched { Refuses result → buffer.new ≡ buffer.old }
@@ -265,13 +258,7 @@ pub extern "C" fn nd2_register(file: &[u8], summary: &[u8], buffer: &mut [u8]) -
 }
 
 // The pixel size of a file in whole picometres; 0, or the number of the first refusal and 0 picometres. It leaves zeros in the table.
-#[unsafe(no_mangle)]
-pub extern "C" fn nd2_picometres(
-    file: &[u8],
-    summary: &[u8],
-    table: &mut [u8],
-    size: &mut u64,
-) -> u32
+pub fn nd2_picometres(file: &[u8], summary: &[u8], table: &mut [u8], size: &mut u64) -> u32
     ensures number { result ≡ (picometres_on file.now summary.now table.old).number }
     ensures size { size.new ≡ (picometres_on file.now summary.now table.old).picometres }
     ensures table { table.new ≡ (picometres_on file.now summary.now table.old).table }
