@@ -1,18 +1,16 @@
 -- The levels that are left fall from call to call, and the experiment levels before a walk from turn to turn.
-use Prim.Native.Nat.{◌+◌, ◌*◌}
 use mathlib.Core.Path.{refl, sym, ap, ◌∙◌}
 use native.Mathlib.Omega.{arith}
 use lib.ListN.{length}
 use Rattle.format.specs.Bytes.{ascii}
-use Rattle.format.specs.Loops.{child_levels, walk}
+use Rattle.format.specs.Loops.{child_levels}
 use Rattle.format.proofs.Calls.OpenNotZero.{walk_some}
 use Rattle.lookup.specs.Table.{entry_in, entries_in}
-use Rattle.lookup.specs.Walks.{Standing, rest_of, NextOf}
+use Rattle.lookup.specs.Walks.{rest_of, NextOf}
 use Rattle.lookup.specs.declared.Next.TheVariants.{Child}
 use Rattle.experiment.specs.Single.{said_of}
-use Rattle.experiment.proofs.Walking.{gives_zero, gives_nothing, gives_wrong, gives_loop, On, on_first, on_end, on_stopped, on_more}
-use borrow.Author.Rules.{rules}
-use Prim.Native.Nat.{ℕ, ◌<◌}
+use Rattle.experiment.proofs.Walking.{gives_zero, gives_nothing, gives_wrong, gives_loop, on_first, on_end, on_stopped, on_more}
+use Prim.Native.Nat.{ℕ}
 use Rattle.experiment.proofs.+load_children_load_experiment_rec.Goals as goal
 use Rattle.experiment.proofs.+load_children_load_experiment_rec.Goals.{load_children-In-Child}
 

@@ -1,17 +1,9 @@
 use Prim.Native.Nat.{◌+◌, ◌*◌}
-use mathlib.Core.Path.{refl, sym, ap, ◌∙◌}
-use native.Mathlib.Omega.{arith}
 use lib.ListN.{length}
-use Rattle.format.specs.Bytes.{ascii}
-use Rattle.format.specs.Loops.{child_levels, walk}
-use Rattle.format.proofs.Calls.OpenNotZero.{walk_some}
+use Rattle.format.specs.Loops.{walk}
 use Rattle.lookup.specs.Table.{entry_in, entries_in}
-use Rattle.lookup.specs.Walks.{Standing, rest_of, NextOf}
-use Rattle.lookup.specs.declared.Next.TheVariants.{Child}
-use Rattle.experiment.specs.Single.{said_of}
-use Rattle.experiment.proofs.Walking.{gives_zero, gives_nothing, gives_wrong, gives_loop, On, on_first, on_end, on_stopped, on_more}
-use borrow.Author.Rules.{rules}
-use Prim.Native.Nat.{ℕ, ◌<◌}
+use Rattle.lookup.specs.Walks.{Standing, rest_of}
+use Rattle.experiment.proofs.Walking.{On}
 use Rattle.experiment.proofs.+load_children_load_experiment_rec.Given as goal
 
 abbrev pub decreases-load_children : goal.decreases-load_children
@@ -23,7 +15,7 @@ decreases-load_experiment_rec l = 2 * l.levels
 abbrev pub invariant-load_children-loop-i : goal.invariant-load_children-loop-i
 invariant-load_children-loop-i l =
     Standing l.file (entry_in l.table) l.used l.turn
-    × On (λ i. walk l.levels l.file (entries_in l.table l.used) i l.nesting) 
+    × On (λ i. walk l.levels l.file (entries_in l.table l.used) i l.nesting)
     (rest_of l.file (entry_in l.table) l.used l.initial.turn) l.initial.kept
     (rest_of l.file (entry_in l.table) l.used l.turn) l.kept
 

@@ -35,7 +35,8 @@ pub returns-then-has_axis : goal.returns-then-has_axis
 returns-then-has_axis c bs s =
     record {
       last = one refl refl;
-      judged = next_twice _ bs _ _ _ s.judged c.if-k-ne0.false c.if-kind-eq-CUSTOM.false (sym (axis_test (goal.at.returns-then-has_axis c).After-has_axis) ∙ c.if-has_axis.true);
+      judged = next_twice _ bs _ _ _ s.judged c.if-k-ne0.false c.if-kind-eq-CUSTOM.false (sym (axis_test (goal.at.returns-then-has_axis c).After-has_axis)
+          ∙ c.if-has_axis.true);
     }
 
 -- where no loop runs over the axis yet, there is room

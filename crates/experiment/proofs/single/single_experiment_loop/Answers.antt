@@ -5,7 +5,6 @@ use Rattle.format.specs.Values.{field_in}
 use Rattle.format.specs.Loops.{loop_params, said, said_by, typed}
 use Rattle.lookup.specs.Table.{entries_in, found}
 use Rattle.lookup.proofs.Search.{at_within}
-use borrow.Author.Rules.{rules}
 use Rattle.experiment.proofs.single.single_experiment_loop.Goals as goal
 use Rattle.experiment.proofs.single.single_experiment_loop.Goals.{After-as_loop_params}
 

@@ -2,7 +2,6 @@
 use mathlib.Core.Path.{ap, ◌∙◌}
 use Rattle.format.specs.Bytes.{ascii}
 use Rattle.format.specs.Loops.{or_zero}
-use borrow.Author.Rules.{rules}
 use Rattle.experiment.proofs.single.ui_count.Goals as goal
 
 pub returns : goal.returns

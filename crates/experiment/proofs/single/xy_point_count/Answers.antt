@@ -5,7 +5,6 @@ use Rattle.format.specs.Values.{field_in}
 use Rattle.format.specs.Loops.{size_of, valid_of}
 use Rattle.lookup.specs.Table.{entries_in}
 use Rattle.experiment.proofs.Counts.{no_points, some_points}
-use borrow.Author.Rules.{rules}
 use Rattle.experiment.proofs.single.xy_point_count.Goals as goal
 use Rattle.experiment.proofs.single.xy_point_count.Goals.{After-size_of-n}
 
