@@ -10,8 +10,6 @@ use lib.Dec.{eqb}
 use lib.ListN.{take, drop, get_elem?, drop_of_length-le}
 use lib.Seq.{take-nil}
 use borrow.Author.Tests.{eq-eqb, ne_eqb}
-use denote.Enum.Declared.{tag_of}
-use types.Run.{OneOf, miss}
 use Rattle.format.specs.Values.{list, value_at, field_in, as_level}
 use Rattle.format.specs.Bytes.{ascii}
 use Rattle.format.specs.Numbers.{unsigned}
@@ -25,7 +23,6 @@ use Rattle.lookup.specs.declared.ClxValue.{ClxValue}
 use Rattle.lookup.specs.declared.ClxValue.TheVariants as clx
 use Rattle.lookup.specs.declared.Field.{Field}
 use Rattle.lookup.specs.declared.Field.TheVariants.{Is, Absent}
-use Rattle.lookup.specs.contracts.ClxValue.{the_type}
 use Rattle.lookup.proofs.Elements.{head_kids, none_kids, get_drop, get_past}
 
 -- ---- a list of just one level
@@ -73,37 +70,37 @@ module _ (s : List ℕ) (es : List Entry) (f : Field) where
     unfolding field_meaning meaning
     params_list i o k q = rw (h, k) (rw (add-one i) at q)
 
-    pub params_other : OneOf (0 ∷ 1 ∷ 2 ∷ 3 ∷ 4 ∷ 5 ∷ []) (tag_of the_type v) → none ≡ loop_params s es (field_meaning s es f)
+    pub params_other : ((i : ℕ) → v ≡ clx.Level i → ⊥) → ((i : ℕ) → v ≡ clx.List i → ⊥) → none ≡ loop_params s es (field_meaning s es f)
     unfolding field_meaning meaning loop_params
-    params_other k = rw h (go v k)
+    params_other p q = rw h (go v p q)
       where
-        go : (v : ClxValue) → OneOf (0 ∷ 1 ∷ 2 ∷ 3 ∷ 4 ∷ 5 ∷ []) (tag_of the_type v) → none ≡ loop_params s es (some (meaning s es v))
-        go (clx.Flag b) k = refl
-        go (clx.Whole n) k = refl
-        go (clx.Below n) k = refl
-        go (clx.Double x) k = refl
-        go (clx.Text a n) k = refl
-        go (clx.Bytes a n) k = refl
-        go (clx.Level i) k = absurd (miss (0 ∷ 1 ∷ 2 ∷ 3 ∷ 4 ∷ 5 ∷ []) 6 tt k)
-        go (clx.List i) k = absurd (miss (0 ∷ 1 ∷ 2 ∷ 3 ∷ 4 ∷ 5 ∷ []) 7 tt k)
+        go : (v : ClxValue) → ((i : ℕ) → v ≡ clx.Level i → ⊥) → ((i : ℕ) → v ≡ clx.List i → ⊥) → none ≡ loop_params s es (some (meaning s es v))
+        go (clx.Flag b) p q = refl
+        go (clx.Whole n) p q = refl
+        go (clx.Below n) p q = refl
+        go (clx.Double x) p q = refl
+        go (clx.Text a n) p q = refl
+        go (clx.Bytes a n) p q = refl
+        go (clx.Level i) p q = absurd (p i refl)
+        go (clx.List i) p q = absurd (q i refl)
 
     pub valid_list : (n i m : ℕ) → v ≡ clx.List i → m ≡ count_set s es (take n (elements_of s es (i + 1))) → m ≡ valid_of s es n (field_meaning s es f)
     unfolding field_meaning meaning valid_of
     valid_list n i m k q = rw (h, k) (rw (add-one i) at q)
 
-    pub valid_other : (n : ℕ) → OneOf (0 ∷ 1 ∷ 2 ∷ 3 ∷ 4 ∷ 5 ∷ 6 ∷ []) (tag_of the_type v) → n ≡ valid_of s es n (field_meaning s es f)
+    pub valid_other : (n : ℕ) → ((i : ℕ) → v ≡ clx.List i → ⊥) → n ≡ valid_of s es n (field_meaning s es f)
     unfolding field_meaning meaning valid_of
-    valid_other n k = rw h (go v k)
+    valid_other n q = rw h (go v q)
       where
-        go : (v : ClxValue) → OneOf (0 ∷ 1 ∷ 2 ∷ 3 ∷ 4 ∷ 5 ∷ 6 ∷ []) (tag_of the_type v) → n ≡ valid_of s es n (some (meaning s es v))
-        go (clx.Flag b) k = refl
-        go (clx.Whole n) k = refl
-        go (clx.Below n) k = refl
-        go (clx.Double x) k = refl
-        go (clx.Text a n) k = refl
-        go (clx.Bytes a n) k = refl
-        go (clx.Level i) k = refl
-        go (clx.List i) k = absurd (miss (0 ∷ 1 ∷ 2 ∷ 3 ∷ 4 ∷ 5 ∷ 6 ∷ []) 7 tt k)
+        go : (v : ClxValue) → ((i : ℕ) → v ≡ clx.List i → ⊥) → n ≡ valid_of s es n (some (meaning s es v))
+        go (clx.Flag b) q = refl
+        go (clx.Whole n) q = refl
+        go (clx.Below n) q = refl
+        go (clx.Double x) q = refl
+        go (clx.Text a n) q = refl
+        go (clx.Bytes a n) q = refl
+        go (clx.Level i) q = refl
+        go (clx.List i) q = absurd (q i refl)
 
 -- ---- elements counted, one by one
 

@@ -54,7 +54,8 @@ module _ (ls : List Loop) (l : Loop) (room : length ls < 3) where
 -- ---- one more loop, judged
 
 -- after a verdict nothing changes it
-turned_on : {v : ℕ} {ls : List Loop} {d : ℕ} {x : Answer (List Loop)} (k : List Loop → Answer (List Loop)) → 0 < v → Tells v ls d x → Tells v ls d (and_then x k)
+turned_on : {v : ℕ} {ls : List Loop} {d : ℕ} {x : Answer (List Loop)} (k : List Loop → Answer (List Loop)) → 0 < v → Tells v ls d x
+    → Tells v ls d (and_then x k)
 unfolding and_then
 turned_on k h (accepted q p r) = absurd (omega arith)
 turned_on k h (turned q p) = turned q p
