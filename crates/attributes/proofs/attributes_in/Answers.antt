@@ -7,7 +7,6 @@ use Rattle.format.specs.Attributes.{uncompressed}
 use Rattle.lookup.specs.Table.{entries_in}
 use Rattle.attributes.specs.Parsed.{answer, judged_by, attributes_in}
 use Rattle.attributes.proofs.Chain.{of_readings}
-use borrow.Author.Rules.{rules}
 use Rattle.attributes.proofs.attributes_in.Goals as goal
 use Rattle.attributes.proofs.attributes_in.Goals.{After-five}
 

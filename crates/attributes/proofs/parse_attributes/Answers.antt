@@ -6,7 +6,6 @@ use Rattle.format.specs.Answer.{and_then, or_refuse}
 use Rattle.format.specs.Bytes.{ascii}
 use Rattle.lookup.specs.Table.{found}
 use Rattle.attributes.proofs.Chain.{in_level}
-use borrow.Author.Rules.{rules}
 use Rattle.attributes.proofs.parse_attributes.Goals as goal
 use Rattle.attributes.proofs.parse_attributes.Goals.{In-At}
 

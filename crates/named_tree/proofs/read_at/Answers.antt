@@ -26,4 +26,5 @@ pub returns-in-Data : goal.returns-in-Data
 returns-in-Data c =
     let r = c.in-Data.is in
     let e = c.chunk_data.ensures in
-    chunk_reads _ _ _ _ (search rules) (rw r at e.1) (rw r at (e.0 why.chunk_name)) c.data_of.ensures c.parse_clx_variant.ensures.answer c.parse_clx_variant.ensures.front
+    chunk_reads _ _ _ _ (search rules) (rw r at e.1) (rw r at (e.0 why.chunk_name)) c.data_of.ensures c.parse_clx_variant.ensures.answer
+    c.parse_clx_variant.ensures.front

@@ -1,5 +1,4 @@
 -- `put_entries`: the entries that have come are taken.
-use Prim.Native.Nat.{◌-◌}
 use native.Mathlib.Omega.{arith}
 use Rattle.chunk.specs.Scan.{Entry}
 use Rattle.register.proofs.Entering.{pass_start, pass_on, pass_end, pass_broken}

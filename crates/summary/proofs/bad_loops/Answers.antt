@@ -1,5 +1,4 @@
 -- `bad_loops`: of the loops that have come none is bad.
-use Prim.Native.Nat.{◌-◌}
 use mathlib.Core.Path.{refl, sym, ◌∙◌}
 use native.Mathlib.Omega.{arith}
 use Rattle.format.specs.Summary.{loops_of, bad_loops}

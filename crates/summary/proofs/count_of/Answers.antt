@@ -1,5 +1,4 @@
 -- `count_of`: the loops that have come do not run over the axis.
-use Prim.Native.Nat.{◌-◌}
 use mathlib.Core.Path.{refl, sym, ◌∙◌}
 use native.Mathlib.Omega.{arith}
 use Rattle.format.specs.Frames.{count_of}

@@ -1,5 +1,4 @@
 -- `has_axis`: no loop that has come runs over the axis.
-use Prim.Native.Nat.{◌-◌}
 use mathlib.Core.Path.{refl, sym, ◌∙◌}
 use native.Mathlib.Omega.{arith}
 use Rattle.format.specs.Loops.{has_axis}

@@ -3,7 +3,7 @@ use Prim.Native.Nat.{◌<◌}
 use mathlib.Core.Path.{◌≡◌, ◌∙◌}
 use native.Mathlib.Omega.{arith}
 use native.Mathlib.Numerals.{add-one}
-use lib.ListN.{length, length-map, length-take}
+use lib.ListN.{length, length-take}
 use lib.Seq.{drop-cons, get_or-take}
 use Rattle.format.specs.Summary.{loops_of, no_loop}
 use Rattle.summary.proofs.loop_at.Goals as goal

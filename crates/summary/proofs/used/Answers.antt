@@ -1,7 +1,7 @@
 -- `used`: the depth, of three.
 use mathlib.Core.Path.{◌≡◌}
 use native.Mathlib.Omega.{arith}
-use lib.ListN.{length, length-map, length-take}
+use lib.ListN.{length, length-take}
 use Rattle.summary.proofs.used.Goals as goal
 use Rattle.summary.proofs.used.Goals.{Start}
 

@@ -1,5 +1,4 @@
 -- `number_at`: the digits from `from` up to `i` are those of `k`.
-use Prim.Native.Nat.{◌-◌}
 use native.Mathlib.Omega.{arith}
 use Rattle.register.proofs.Decimals.{no_digit, read_start, zero_front, too_large, read_on, read_end}
 use Rattle.register.proofs.naming.number_at.Goals as goal

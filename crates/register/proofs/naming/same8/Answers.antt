@@ -1,5 +1,4 @@
 -- `same8`: eight bytes, one after another: the answer so far tells whether they are alike.
-use Prim.Native.Nat.{◌-◌}
 use mathlib.Core.Path.{◌≡◌}
 use native.Mathlib.Omega.{arith}
 use borrow.Author.Rules.{rules}

@@ -2,12 +2,8 @@
 use mathlib.Core.Path.{refl}
 use Rattle.format.specs.Answer.{number_of}
 use Rattle.format.specs.Calls.Picometres.{size_or_zero}
-use Rattle.picometres.proofs.refused.Statement.{statement}
-use Rattle.picometres.proofs.refused.Tie as tie
+use Rattle.picometres.proofs.refused.Goals as goal
 
-returns : tie.Need-returns
+pub returns : goal.returns
 unfolding number_of size_or_zero
 returns c = record { number = refl; size = refl }
-
-pub refused_spec : {M : Type 1} → statement M
-refused_spec = tie.close (tie.spec returns)
