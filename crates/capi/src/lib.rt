@@ -1,4 +1,4 @@
-// The C interface: every call with plain numbers and slices of bytes, in which summaries and channel records stand too. include/nd2.h declares it.
+// The C interface: every call with plain numbers and slices of bytes, in which summaries and channel records stand too. nd2_c exports it, as nd2.h declares.
 #![tactic(auto)]
 
 ghost use Rattle.std.specs.Prelude.{◌≡◌, ◌*◌, ◌/◌, ◌≤◌, length};
