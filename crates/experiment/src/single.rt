@@ -200,6 +200,7 @@ fn is_supported(kind: u64) -> bool
     (kind == 1) | (kind == 2) | (kind == 4) | (kind == 6) | (kind == 7) | (kind == 8)
 }
 
+#[tactic(auto, unfolding(format::specs::Loops::counted))]
 fn counted_loop(kind: u64, count: u64) -> Single
     ensures { said_of result ≡ counted kind count }
 {

@@ -56,9 +56,6 @@ step_from-returns-then-levels-eq0 t c = step_zero _ _ _ _ c.if-levels-eq0.true
 pub step_from-returns-in_default : goal.step_from-returns-in_default
 step_from-returns-in_default t c = step_own _ _ _ _ c.if-levels-eq0.false _ _ (ap real c.in_default.is) c.own_step-own.ensures
 
-pub step_from-children-turn-requires : goal.step_from-children-turn-requires
-step_from-children-turn-requires t c = (c.requires.0, c.get-next.ensures.1)
-
 pub step_from-first_step-requires : goal.step_from-first_step-requires
 step_from-first_step-requires t c =
     (omega (arith, c), (c.requires.0, c.children-turn.ensures.good))
