@@ -1,5 +1,5 @@
 -- Two lists in parts of one size, and rows of one in the other.
-use Rattle.std.specs.Prelude.{ℕ, ◌+◌, ◌*◌, ◌<◌, ◌≡◌, List, ◌++◌, take, drop}
+use Rattle.std.specs.Prelude.{ℕ, ◌*◌, ◌<◌, ◌≡◌, List, ◌++◌, take, drop}
 use Rattle.format.specs.Bytes.{part}
 
 -- the first x bytes of each of the first k parts, of `size` bytes, are the same in s and in d

@@ -73,7 +73,8 @@ last t i f = next t i f []
 
 module _ (t : List ℕ) where
   pub image_stored : (w h b : ℕ) → sets t 10 (each field_bytes (image_fields w h b))
-      ≡ sets (sets (sets (sets (sets t 10 (field_bytes (long 256 w))) 22 (field_bytes (long 257 h))) 34 (field_bytes (short 258 b))) 46 (field_bytes (short 259 1)))
+      ≡ sets (sets (sets (sets (sets t 10 (field_bytes (long 256 w))) 22 (field_bytes (long 257 h))) 34 (field_bytes (short 258 b))) 46
+      (field_bytes (short 259 1)))
       58 (field_bytes (short 262 1))
   image_stored w h b = next _ 10 _ _ ∙ next _ 22 _ _ ∙ next _ 34 _ _ ∙ next _ 46 _ _ ∙ last _ 58 _
 

@@ -31,7 +31,8 @@ module _ (s : List ℕ) (u : Summary) (scene t c z : ℕ) (lent : List ℕ) wher
   -- the call's number and buffer, and the sentences that follow
   abbrev pub Promised : ℕ → List ℕ → Type 0
   Promised n out =
-      (n ≡ (sheet_call s u scene t c z lent).number) × ((out ≡ (sheet_call s u scene t c z lent).buffer) × (FirstAt W sheet_order n × (AcceptedUnless (AtSome W) n
+      (n ≡ (sheet_call s u scene t c z lent).number) × ((out ≡ (sheet_call s u scene t c z lent).buffer)
+      × (FirstAt W sheet_order n × (AcceptedUnless (AtSome W) n
       × ((n ≡ 0 → SheetWritten s u scene t c z lent out) × ((n ≡ 0 → PlaneOn s u scene t c z out)
       × ((Refuses n → out ≡ lent) × FrameNamed s u scene t c z n))))))
 

@@ -39,7 +39,13 @@ fits_by w h b e f =
     let e₂ = or_left (t₁ || t₂) t₃ e in
     let n₂ : (w ≡ 0 → ⊥) = eqb-false w 0 (or_right t₁ t₂ e₂) in
     let n₃ : (h ≡ 0 → ⊥) = eqb-false h 0 (or_right (t₁ || t₂) t₃ e) in
-    record { width_some = omega arith; height_some = omega arith; bits = bits_good b (or_left t₁ t₂ e₂); most = ltb-false most_sheet_bytes (sheet_bytes w h b) f }
+    record {
+      width_some = omega arith;
+      height_some = omega arith;
+      bits = bits_good b (or_left t₁ t₂ e₂);
+      most =
+          ltb-false most_sheet_bytes (sheet_bytes w h b) f;
+    }
 
 module _ (s : List ℕ) (w h b : ℕ) where
   -- what is laid out as a sheet fits, and has its length

@@ -16,7 +16,8 @@ data_at c = rw c.in-Data.is at (c.frame_chunk.ensures.0 why.chunk_name)
 pub returns-then-bad_frame : goal.returns-then-bad_frame
 returns-then-bad_frame c =
     let a = c.args in
-    short a.file.now a.u (frame_name a.n) a.offset c.in-Data.r (data_at (goal.at.returns-then-bad_frame c).In-Data) (sym c.bad_frame.ensures ∙ c.if-bad_frame.true)
+    let its_data = data_at (goal.at.returns-then-bad_frame c).In-Data in
+    short a.file.now a.u (frame_name a.n) a.offset c.in-Data.r its_data (sym c.bad_frame.ensures ∙ c.if-bad_frame.true)
 
 pub returns-in-Bad : goal.returns-in-Bad
 returns-in-Bad c =
@@ -31,4 +32,5 @@ returns-in-Misnamed c =
 pub returns-else-bad_frame : goal.returns-else-bad_frame
 returns-else-bad_frame c =
     let a = c.args in
-    found a.file.now a.u (frame_name a.n) a.offset c.in-Data.r (data_at (goal.at.returns-else-bad_frame c).In-Data) (sym c.bad_frame.ensures ∙ c.if-bad_frame.false)
+    let its_data = data_at (goal.at.returns-else-bad_frame c).In-Data in
+    found a.file.now a.u (frame_name a.n) a.offset c.in-Data.r its_data (sym c.bad_frame.ensures ∙ c.if-bad_frame.false)

@@ -15,7 +15,8 @@ module _ (c : After-product_over) where
 pub returns-then-product_over : goal.returns-then-product_over
 returns-then-product_over c =
     let a = c.args in
-    no_room a.file.now a.u a.scene a.t a.c a.z a.room _ (found (goal.at.returns-then-product_over c).After-product_over) (sym c.product_over.ensures ∙ c.if-product_over.true)
+    let given_frame = found (goal.at.returns-then-product_over c).After-product_over in
+    no_room a.file.now a.u a.scene a.t a.c a.z a.room _ given_frame (sym c.product_over.ensures ∙ c.if-product_over.true)
 
 pub returns-in-Refused : goal.returns-in-Refused
 returns-in-Refused c =
@@ -26,4 +27,5 @@ returns-in-Refused c =
 pub returns-else-product_over : goal.returns-else-product_over
 returns-else-product_over c =
     let a = c.args in
-    with_room a.file.now a.u a.scene a.t a.c a.z a.room _ (found (goal.at.returns-else-product_over c).After-product_over) (sym c.product_over.ensures ∙ c.if-product_over.false)
+    let given_frame = found (goal.at.returns-else-product_over c).After-product_over in
+    with_room a.file.now a.u a.scene a.t a.c a.z a.room _ given_frame (sym c.product_over.ensures ∙ c.if-product_over.false)

@@ -36,7 +36,9 @@ module _ (c : Else-bad_index) where
 pub returns-then-product_over : goal.returns-then-product_over
 returns-then-product_over c =
     let a = c.args in
-    too_large a.file.now a.u a.scene a.t a.c a.z (passed (goal.at.returns-then-product_over c).Else-bad_summary) (within (goal.at.returns-then-product_over c).Else-bad_index) (sym c.product_over.ensures ∙ c.if-product_over.true)
+    let sound = passed (goal.at.returns-then-product_over c).Else-bad_summary in
+    let inside = within (goal.at.returns-then-product_over c).Else-bad_index in
+    too_large a.file.now a.u a.scene a.t a.c a.z sound inside (sym c.product_over.ensures ∙ c.if-product_over.true)
 
 pub data_of-map-requires : goal.data_of-map-requires
 data_of-map-requires c =
@@ -58,20 +60,25 @@ module _ (c : After-frame_at) where
 pub returns-in-At : goal.returns-in-At
 returns-in-At c =
     let a = c.args in
+    let sound = passed (goal.at.returns-in-At c).Else-bad_summary in
+    let inside = within (goal.at.returns-in-At c).Else-bad_index in
     let o = c.in-At.o in
     c.frame_data.ensures
     ∙ ap (λ (n : ℕ). found_at a.file.now a.u (frame_name n) o) c.seq_index-n.ensures
-    ∙ at_offset a.file.now a.u a.scene a.t a.c a.z (passed (goal.at.returns-in-At c).Else-bad_summary) (within (goal.at.returns-in-At c).Else-bad_index) (sym c.product_over.ensures ∙ c.if-product_over.false) o
+    ∙ at_offset a.file.now a.u a.scene a.t a.c a.z sound inside (sym c.product_over.ensures ∙ c.if-product_over.false) o
     (rw c.in-At.is at (looked (goal.at.returns-in-At c).After-frame_at))
 
 pub returns-in-Absent : goal.returns-in-Absent
 returns-in-Absent c =
     let a = c.args in
-    no_frame_is a.file.now a.u a.scene a.t a.c a.z (passed (goal.at.returns-in-Absent c).Else-bad_summary) (within (goal.at.returns-in-Absent c).Else-bad_index) (sym c.product_over.ensures ∙ c.if-product_over.false)
+    let sound = passed (goal.at.returns-in-Absent c).Else-bad_summary in
+    let inside = within (goal.at.returns-in-Absent c).Else-bad_index in
+    no_frame_is a.file.now a.u a.scene a.t a.c a.z sound inside (sym c.product_over.ensures ∙ c.if-product_over.false)
     (rw c.in-Absent.is at (looked (goal.at.returns-in-Absent c).After-frame_at))
 
 pub returns-in-Broken : goal.returns-in-Broken
 returns-in-Broken c =
     let a = c.args in
-    no_map a.file.now a.u a.scene a.t a.c a.z (passed (goal.at.returns-in-Broken c).Else-bad_summary) (within (goal.at.returns-in-Broken c).Else-bad_index) (sym c.product_over.ensures ∙ c.if-product_over.false)
+    let sound = passed (goal.at.returns-in-Broken c).Else-bad_summary in
+    no_map a.file.now a.u a.scene a.t a.c a.z sound (within (goal.at.returns-in-Broken c).Else-bad_index) (sym c.product_over.ensures ∙ c.if-product_over.false)
     (rw c.in-Broken.is at (looked (goal.at.returns-in-Broken c).After-frame_at))

@@ -39,9 +39,10 @@ room c f =
 
 pub put_head-requires : goal.put_head-requires
 put_head-requires c =
-    let a = c.args in (
-      head_room a.file.now a.u a.scene a.t a.c a.z a.lent.now (found (goal.at.put_head-requires c).In-Data),
-      head_fits a.file.now a.u a.scene a.t a.c a.z a.lent.now (found (goal.at.put_head-requires c).In-Data),
+    let a = c.args in
+    let frame = found (goal.at.put_head-requires c).In-Data in (
+      head_room a.file.now a.u a.scene a.t a.c a.z a.lent.now frame,
+      head_fits a.file.now a.u a.scene a.t a.c a.z a.lent.now frame,
     )
 
 pub data_of-data-requires : goal.data_of-data-requires
@@ -56,38 +57,64 @@ pub slice_bounds-copy_samples-start : goal.slice_bounds-copy_samples-start
 slice_bounds-copy_samples-start c = behind c (found (goal.at.slice_bounds-copy_samples-start c).In-Data)
 
 pub slice_bounds-copy_samples-count-in-Data : goal.slice_bounds-copy_samples-count-in-Data
-slice_bounds-copy_samples-count-in-Data c = room (goal.at.slice_bounds-copy_samples-count-in-Data c).After-put_head (found (goal.at.slice_bounds-copy_samples-count-in-Data c).In-Data)
+slice_bounds-copy_samples-count-in-Data c = room (goal.at.slice_bounds-copy_samples-count-in-Data c).After-put_head
+    (found (goal.at.slice_bounds-copy_samples-count-in-Data c).In-Data)
 
 pub slice_bounds-copy_samples-start-in-Data : goal.slice_bounds-copy_samples-start-in-Data
-slice_bounds-copy_samples-start-in-Data c = room (goal.at.slice_bounds-copy_samples-start-in-Data c).After-put_head (found (goal.at.slice_bounds-copy_samples-start-in-Data c).In-Data)
+slice_bounds-copy_samples-start-in-Data c = room (goal.at.slice_bounds-copy_samples-start-in-Data c).After-put_head
+    (found (goal.at.slice_bounds-copy_samples-start-in-Data c).In-Data)
 
 pub copy_samples-requires : goal.copy_samples-requires
 copy_samples-requires c =
     let a = c.args in
+    let frame = found (goal.at.copy_samples-requires c).In-Data in
     let r = c.in-Data.r in
-    let i = inside a.file.now a.u a.scene a.t a.c a.z a.lent.now (found (goal.at.copy_samples-requires c).In-Data) in
-    let p = prefix a.file.now a.u a.scene a.t a.c a.z a.lent.now (found (goal.at.copy_samples-requires c).In-Data) in
-    let m = head_room a.file.now a.u a.scene a.t a.c a.z a.lent.now (found (goal.at.copy_samples-requires c).In-Data) in
+    let i = inside a.file.now a.u a.scene a.t a.c a.z a.lent.now frame in
+    let p = prefix a.file.now a.u a.scene a.t a.c a.z a.lent.now frame in
+    let m = head_room a.file.now a.u a.scene a.t a.c a.z a.lent.now frame in
     let h = sheet_head a.u.width a.u.height a.u.bits in
     let long = head_length a.u.width a.u.height a.u.bits in
     rw (
       rows_length a.file.now r c.data_of-data.result.now c.data_of-data.ensures i p,
       strip_length h [] a.lent.now _ [] long c.put_head.ensures m,
-    ) (fit a.file.now a.u a.scene a.t a.c a.z a.lent.now (found (goal.at.copy_samples-requires c).In-Data))
+    ) (fit a.file.now a.u a.scene a.t a.c a.z a.lent.now frame)
 
 pub returns-in-Refused : goal.returns-in-Refused
 returns-in-Refused c =
-    let a = c.args in let it = refused_sheet a.file.now a.u a.scene a.t a.c a.z a.lent.now c.in-Refused.n
-    (rw c.in-Refused.is at c.sheet_for.ensures) in record { number = it.0; buffer = it.1.0; first = it.1.1.0; accepted = it.1.1.1.0; written = it.1.1.1.1.0; plane = it.1.1.1.1.1.0; untouched = it.1.1.1.1.1.1.0; named = it.1.1.1.1.1.1.1 }
+    let a = c.args in
+    let it = refused_sheet a.file.now a.u a.scene a.t a.c a.z a.lent.now c.in-Refused.n
+    (rw c.in-Refused.is at c.sheet_for.ensures) in
+    record {
+      number = it.0;
+      buffer = it.1.0;
+      first = it.1.1.0;
+      accepted = it.1.1.1.0;
+      written = it.1.1.1.1.0;
+      plane = it.1.1.1.1.1.0;
+      untouched = it.1.1.1.1.1.1.0;
+      named = it.1.1.1.1.1.1.1;
+    }
 
 pub returns-in-Data : goal.returns-in-Data
 returns-in-Data c =
     let a = c.args in
+    let frame = found (goal.at.returns-in-Data c).In-Data in
     let r = c.in-Data.r in
-    let i = inside a.file.now a.u a.scene a.t a.c a.z a.lent.now (found (goal.at.returns-in-Data c).In-Data) in
-    let p = prefix a.file.now a.u a.scene a.t a.c a.z a.lent.now (found (goal.at.returns-in-Data c).In-Data) in
-    let m = head_room a.file.now a.u a.scene a.t a.c a.z a.lent.now (found (goal.at.returns-in-Data c).In-Data) in
-    let f = fit a.file.now a.u a.scene a.t a.c a.z a.lent.now (found (goal.at.returns-in-Data c).In-Data) in let it = written_sheet a.file.now a.u a.scene a.t a.c a.z a.lent.now (found (goal.at.returns-in-Data c).In-Data)
+    let i = inside a.file.now a.u a.scene a.t a.c a.z a.lent.now frame in
+    let p = prefix a.file.now a.u a.scene a.t a.c a.z a.lent.now frame in
+    let m = head_room a.file.now a.u a.scene a.t a.c a.z a.lent.now frame in
+    let f = fit a.file.now a.u a.scene a.t a.c a.z a.lent.now frame in
+    let it = written_sheet a.file.now a.u a.scene a.t a.c a.z a.lent.now frame
     (strip_stored (sheet_head a.u.width a.u.height a.u.bits) _ a.lent.now _ _ (head_length a.u.width a.u.height a.u.bits)
     c.put_head.ensures m
-    (rw (plane_rows a.file.now r c.data_of-data.result.now c.data_of-data.ensures i p a.u a.c _ f) at c.copy_samples.ensures)) in record { number = it.0; buffer = it.1.0; first = it.1.1.0; accepted = it.1.1.1.0; written = it.1.1.1.1.0; plane = it.1.1.1.1.1.0; untouched = it.1.1.1.1.1.1.0; named = it.1.1.1.1.1.1.1 }
+    (rw (plane_rows a.file.now r c.data_of-data.result.now c.data_of-data.ensures i p a.u a.c _ f) at c.copy_samples.ensures)) in
+    record {
+      number = it.0;
+      buffer = it.1.0;
+      first = it.1.1.0;
+      accepted = it.1.1.1.0;
+      written = it.1.1.1.1.0;
+      plane = it.1.1.1.1.1.0;
+      untouched = it.1.1.1.1.1.1.0;
+      named = it.1.1.1.1.1.1.1;
+    }

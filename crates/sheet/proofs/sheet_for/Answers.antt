@@ -15,12 +15,14 @@ module _ (c : After-sheet_over) where
 pub returns-then-sheet_over : goal.returns-then-sheet_over
 returns-then-sheet_over c =
     let a = c.args in
-    too_long a.file.now a.u a.scene a.t a.c a.z a.room _ (found (goal.at.returns-then-sheet_over c).After-sheet_over) (sym c.sheet_over.ensures ∙ c.if-sheet_over.true)
+    let frame = found (goal.at.returns-then-sheet_over c).After-sheet_over in
+    too_long a.file.now a.u a.scene a.t a.c a.z a.room _ frame (sym c.sheet_over.ensures ∙ c.if-sheet_over.true)
 
 pub returns-then-sheet_over-2 : goal.returns-then-sheet_over-2
 returns-then-sheet_over-2 c =
     let a = c.args in
-    no_room a.file.now a.u a.scene a.t a.c a.z a.room _ (found (goal.at.returns-then-sheet_over-2 c).After-sheet_over) (sym c.sheet_over.ensures ∙ c.if-sheet_over.false)
+    let frame = found (goal.at.returns-then-sheet_over-2 c).After-sheet_over in
+    no_room a.file.now a.u a.scene a.t a.c a.z a.room _ frame (sym c.sheet_over.ensures ∙ c.if-sheet_over.false)
     (sym c.sheet_over-in-Data.ensures ∙ c.if-sheet_over-2.true)
 
 pub returns-in-Refused : goal.returns-in-Refused
@@ -32,5 +34,6 @@ returns-in-Refused c =
 pub returns-else-sheet_over-2 : goal.returns-else-sheet_over-2
 returns-else-sheet_over-2 c =
     let a = c.args in
-    with_room a.file.now a.u a.scene a.t a.c a.z a.room _ (found (goal.at.returns-else-sheet_over-2 c).After-sheet_over) (sym c.sheet_over.ensures ∙ c.if-sheet_over.false)
+    let frame = found (goal.at.returns-else-sheet_over-2 c).After-sheet_over in
+    with_room a.file.now a.u a.scene a.t a.c a.z a.room _ frame (sym c.sheet_over.ensures ∙ c.if-sheet_over.false)
     (sym c.sheet_over-in-Data.ensures ∙ c.if-sheet_over-2.false)

@@ -27,4 +27,5 @@ returns-then-w-stride c =
     let a = c.args in
     let q = c.copy_with_lead in
     rw sub-zero
-    (pieces_once a.src.now a.dst.now q.new.dst a.w a.stride a.count c.if-w-stride.true (inside (goal.at.returns-then-w-stride c).Then-w-stride) (rw sub-zero at q.ensures))
+    (pieces_once a.src.now a.dst.now q.new.dst a.w a.stride a.count c.if-w-stride.true (inside (goal.at.returns-then-w-stride c).Then-w-stride)
+    (rw sub-zero at q.ensures))

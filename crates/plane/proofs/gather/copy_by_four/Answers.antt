@@ -1,6 +1,6 @@
 -- `copy_by_four`: k samples stand at the front of `dst`, four more after a turn and then one more.
 use mathlib.Core.Path.{◌≡◌, refl, sym, ap, ◌∙◌}
-use Prim.Native.Nat.{ℕ, ◌+◌, ◌*◌, ◌≤◌, ◌-◌}
+use Prim.Native.Nat.{ℕ, ◌+◌, ◌*◌, ◌≤◌}
 use native.Mathlib.Omega.{arith}
 use native.Mathlib.Nat.{zero-mul, add-mul, mul-le-mul_right}
 use lib.Seq.{sets}
@@ -26,8 +26,9 @@ overflow_mul-k c = omega (arith, four_in (goal.at.overflow_mul-k c).In-loop-k c.
 
 pub copy_four_samples-requires : goal.copy_four_samples-requires
 copy_four_samples-requires c =
+    let turn_at = (goal.at.copy_four_samples-requires c).In-loop-k in
     let a = c.args in
-    (c.requires.0, c.requires.1, omega (arith, four_in (goal.at.copy_four_samples-requires c).In-loop-k a.step), omega (arith, four_in (goal.at.copy_four_samples-requires c).In-loop-k a.size))
+    (c.requires.0, c.requires.1, omega (arith, four_in turn_at a.step), omega (arith, four_in turn_at a.size))
 
 pub overflow_mul-from : goal.overflow_mul-from
 overflow_mul-from c = omega (arith, four_in (goal.at.overflow_mul-from c).In-loop-k c.args.step)
@@ -43,6 +44,7 @@ loop-k-smaller c = omega arith
 
 pub loop-k-preserved : goal.loop-k-preserved
 loop-k-preserved c =
+    let turn_at = (goal.at.loop-k-preserved c).In-loop-k in
     let l = c.loop-k in
     let a = c.args in
     let q = c.copy_four_samples in
@@ -52,7 +54,7 @@ loop-k-preserved c =
       omega arith,
       rw add-mul (omega arith),
       q.auto.dst ∙ l.invariant.2,
-      more (omega (arith, four_in (goal.at.loop-k-preserved c).In-loop-k a.step)) (omega (arith, four_in (goal.at.loop-k-preserved c).In-loop-k a.size)) l.invariant.1 refl q.ensures,
+      more (omega (arith, four_in turn_at a.step)) (omega (arith, four_in turn_at a.size)) l.invariant.1 refl q.ensures,
     )
 
 pub loop-k-2-init : goal.loop-k-2-init
@@ -84,8 +86,9 @@ overflow_mul-k-in-loop-k-2-2 c = omega (arith, one_in (goal.at.overflow_mul-k-in
 
 pub copy_sample-requires : goal.copy_sample-requires
 copy_sample-requires c =
+    let turn_at = (goal.at.copy_sample-requires c).In-loop-k-2 in
     let a = c.args in
-    (c.requires.0, c.requires.1, omega (arith, one_in (goal.at.copy_sample-requires c).In-loop-k-2 a.step), omega (arith, one_in (goal.at.copy_sample-requires c).In-loop-k-2 a.size))
+    (c.requires.0, c.requires.1, omega (arith, one_in turn_at a.step), omega (arith, one_in turn_at a.size))
 
 pub overflow_add-k-in-loop-k-2 : goal.overflow_add-k-in-loop-k-2
 overflow_add-k-in-loop-k-2 c = omega arith
@@ -95,6 +98,7 @@ loop-k-2-smaller c = omega arith
 
 pub loop-k-2-preserved : goal.loop-k-2-preserved
 loop-k-2-preserved c =
+    let turn_at = (goal.at.loop-k-2-preserved c).In-loop-k-2 in
     let l = c.loop-k-2 in
     let first = c.loop-k in
     let a = c.args in
@@ -106,7 +110,7 @@ loop-k-2-preserved c =
       omega arith,
       omega arith,
       q.auto.dst ∙ l.invariant.2,
-      more (omega (arith, one_in (goal.at.loop-k-2-preserved c).In-loop-k-2 a.step)) (omega (arith, one_in (goal.at.loop-k-2-preserved c).In-loop-k-2 a.size)) refl refl stored,
+      more (omega (arith, one_in turn_at a.step)) (omega (arith, one_in turn_at a.size)) refl refl stored,
     )
 
 pub shape_of-dst : goal.shape_of-dst

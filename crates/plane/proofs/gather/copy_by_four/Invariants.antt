@@ -7,7 +7,8 @@ use Rattle.plane.proofs.gather.copy_by_four.Given as goal
 
 abbrev pub invariant-loop-k : goal.invariant-loop-k
 invariant-loop-k l =
-    (l.k ≤ l.count) × (l.from ≡ l.at + l.k * l.step) × (length l.dst ≡ length l.initial.dst) × (l.dst ≡ over (pieces l.src l.at l.step l.size l.k) l.initial.dst)
+    (l.k ≤ l.count) × (l.from ≡ l.at + l.k * l.step) × (length l.dst ≡ length l.initial.dst)
+    × (l.dst ≡ over (pieces l.src l.at l.step l.size l.k) l.initial.dst)
 
 abbrev pub decreases-loop-k : goal.decreases-loop-k
 decreases-loop-k l = l.count - l.k

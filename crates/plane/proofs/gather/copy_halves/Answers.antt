@@ -1,6 +1,6 @@
 -- `copy_halves`: k bytes stand at the front of `dst`.
 use mathlib.Core.Path.{◌≡◌, refl, ap, ◌∙◌}
-use Prim.Native.Nat.{ℕ, ◌-◌}
+use Prim.Native.Nat.{ℕ}
 use native.Mathlib.Omega.{arith}
 use lib.ListN.{length-set}
 use Rattle.format.specs.Bytes.{over}

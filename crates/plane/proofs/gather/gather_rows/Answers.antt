@@ -88,7 +88,8 @@ loop-y-preserved c =
       same_len_mid l.to (l.to + w - l.to) l.dst q.new.dst q.auto.dst ∙ l.invariant.3,
       row_more a.src.now a.at a.stride a.step a.size a.width (omega arith) (omega arith) a.dst.now l.dst q.new.dst
           (take (l.to + w - l.to) (drop l.to l.dst)) l.y l.from l.to (l.from + a.stride) w (l.to + w)
-          (omega (arith, src_in (goal.at.loop-y-preserved c).In-loop-y)) l.invariant.1 refl refl l.invariant.2 refl (lent (goal.at.loop-y-preserved c).In-loop-y) l.invariant.4 q.ensures,
+          (omega (arith, src_in (goal.at.loop-y-preserved c).In-loop-y)) l.invariant.1 refl refl l.invariant.2 refl
+          (lent (goal.at.loop-y-preserved c).In-loop-y) l.invariant.4 q.ensures,
     )
 
 pub shape_of-dst : goal.shape_of-dst
