@@ -1,8 +1,7 @@
 -- `channels::fill`: record by record; the table that the walk goes by stays as it was.
-use Rattle.std.proofs.Common.{◌≡◌, List, length, ◌<◌, ◌∙◌, ap, arith, refl}
+use Rattle.std.proofs.Common.{length, ◌<◌, ◌∙◌, ap, arith, refl}
 use Rattle.format.specs.Bytes.{zeros}
 use Rattle.format.specs.Channels.{fitted}
-use Rattle.format.specs.declared.Channel.{Channel}
 use Rattle.format.proofs.Calls.ChannelRecords.{fitted_length}
 use Rattle.channels.specs.Ahead.{ahead}
 use Rattle.channels.proofs.Lay.{lay_zero, lay_next, lay_end}

@@ -1,3 +1,4 @@
+-- `channels::fill`: the first i records are written, the walk has those from number i on before it, and the table is as it was.
 use Rattle.std.proofs.Common.{length, ◌-◌, ◌≡◌, ◌≤◌}
 use Rattle.format.specs.Channels.{fitted}
 use Rattle.channels.specs.Ahead.{ahead}
@@ -5,7 +6,6 @@ use Rattle.channels.proofs.Lay.{lay}
 use Rattle.channels.proofs.Rows.{On}
 use Rattle.channels.proofs.fill.Given as goal
 
--- the first i records are written, and the table is as it was
 abbrev pub invariant-loop-i : goal.invariant-loop-i
 invariant-loop-i l = record {
   within : l.i ≤ length l.initial.row;

@@ -8,7 +8,6 @@ use Rattle.format.specs.Summary.{bad_summary, map_of}
 use Rattle.format.proofs.Files.SummaryTest.{sound_read}
 use Rattle.chunk.specs.Answers.{lookup_of, find_in}
 use Rattle.channels.proofs.Readying.{planes_name, ready_refused, ready_same, bad_summary_is, no_map, short_row, read_on}
-use borrow.Author.Rules.{rules}
 use Rattle.channels.proofs.prepare.Goals as goal
 use Rattle.channels.proofs.prepare.Goals.{After-is_broken, Else-bad_summary}
 
@@ -34,17 +33,19 @@ data_of-map-requires c = (sound_read _ _ (passed c)).map_within
 pub returns-then-is_broken : goal.returns-then-is_broken
 returns-then-is_broken c =
     let w = c.without-then-is_broken.ensures in
-    ready_refused _ _ _ _ w.1 5 (no_map _ _ _ _ (passed (goal.at.returns-then-is_broken c).Else-bad_summary) (looked (goal.at.returns-then-is_broken c).After-is_broken) (rw c.if-is_broken.true at c.is_broken.ensures))
-    w.0
+    let p = goal.at.returns-then-is_broken c in
+    let broken = rw c.if-is_broken.true at c.is_broken.ensures in
+    ready_refused _ _ _ _ w.1 5 (no_map _ _ _ _ (passed p.Else-bad_summary) (looked p.After-is_broken) broken) w.0
 
 pub returns-then-row-u : goal.returns-then-row-u
 returns-then-row-u c =
     let w = c.without-then-row-u.ensures in
-    ready_refused _ _ _ _ w.1 19
-    (short_row _ _ _ _ (passed (goal.at.returns-then-row-u c).Else-bad_summary) (looked (goal.at.returns-then-row-u c).After-is_broken) (rw c.if-is_broken.false at c.is_broken.ensures) c.if-row-u.true)
-    w.0
+    let p = goal.at.returns-then-row-u c in
+    let found = rw c.if-is_broken.false at c.is_broken.ensures in
+    ready_refused _ _ _ _ w.1 19 (short_row _ _ _ _ (passed p.Else-bad_summary) (looked p.After-is_broken) found c.if-row-u.true) w.0
 
 pub returns : goal.returns
 returns c =
-    ready_same (read_on _ _ _ _ (passed (goal.at.returns c).Else-bad_summary) (looked (goal.at.returns c).After-is_broken) (rw c.if-is_broken.false at c.is_broken.ensures) c.if-row-u.false)
-    c.read_planes.ensures
+    let p = goal.at.returns c in
+    let found = rw c.if-is_broken.false at c.is_broken.ensures in
+    ready_same (read_on _ _ _ _ (passed p.Else-bad_summary) (looked p.After-is_broken) found c.if-row-u.false) c.read_planes.ensures

@@ -7,7 +7,6 @@ use Rattle.chunk.specs.Answers.{lookup_of}
 use Rattle.named_tree.specs.Named.{tree_under, Reads}
 use Rattle.tree.specs.declared.Parsed.TheVariants.{Entries}
 use Rattle.channels.proofs.Readying.{planes_name, ready_given, ready_refused, ready_empty, by_given, by_table, by_fault}
-use borrow.Author.Rules.{rules}
 use Rattle.channels.proofs.read_planes.Goals as goal
 use Rattle.channels.proofs.read_planes.Goals.{In-Entries}
 

@@ -1,5 +1,4 @@
 -- `channels::record_at`: the records before it are passed, one by one.
-use Prim.Native.Nat.{◌-◌}
 use mathlib.Core.Path.{◌∙◌}
 use native.Mathlib.Omega.{arith}
 use Rattle.channels.proofs.Rows.{on_first, on_next, on_row, past_row}

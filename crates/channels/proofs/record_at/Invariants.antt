@@ -1,3 +1,4 @@
+-- `channels::record_at`: after k steps the walk has the records from number k on before it.
 use Prim.Native.Nat.{◌-◌, ◌≤◌}
 use Rattle.channels.proofs.Rows.{On}
 use Rattle.channels.proofs.record_at.Given as goal

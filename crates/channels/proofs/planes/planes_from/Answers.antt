@@ -29,10 +29,7 @@ covers_of-requires c = (c.requires.0, (child c).0)
 module _ (c : After-at_most-n) where
   cut : let a = c.args in
       c.at_most-n.result ≡ min (plane_record a.file.now (entries_in a.table.now a.used) c.in-Child.i).covers a.most
-  cut =
-      let c = c in
-      let a = c.args in
-      c.at_most-n.ensures ∙ ap (λ (v : ℕ). min v a.most) c.covers_of.ensures
+  cut = c.at_most-n.ensures ∙ ap (λ (v : ℕ). min v c.args.most) c.covers_of.ensures
 
 pub channel_of-requires : goal.channel_of-requires
 channel_of-requires c = (c.requires.0, (child (goal.at.channel_of-requires c).In-Child).0)
@@ -40,7 +37,8 @@ channel_of-requires c = (c.requires.0, (child (goal.at.channel_of-requires c).In
 pub overflow_sub-result : goal.overflow_sub-result
 overflow_sub-result c =
     let a = c.args in
-    omega (arith, cut (goal.at.overflow_sub-result c).After-at_most-n, c.if-most-eq0.false, plane_covers a.file.now (entries_in a.table.now a.used) c.in-Child.i)
+    let some_covered = plane_covers a.file.now (entries_in a.table.now a.used) c.in-Child.i in
+    omega (arith, cut (goal.at.overflow_sub-result c).After-at_most-n, c.if-most-eq0.false, some_covered)
 
 pub returns-in-End : goal.returns-in-End
 returns-in-End c =
@@ -50,5 +48,6 @@ returns-in-End c =
 
 pub returns-in-Child : goal.returns-in-Child
 returns-in-Child c =
-    let n = child (goal.at.returns-in-Child c).In-Child in
-    one_before _ _ _ c.args.most _ _ c.args.turn _ _ c.requires.0 c.if-most-eq0.false n.1 n.2 (cut (goal.at.returns-in-Child c).After-at_most-n) c.channel_of.ensures
+    let w = goal.at.returns-in-Child c in
+    let n = child w.In-Child in
+    one_before _ _ _ c.args.most _ _ c.args.turn _ _ c.requires.0 c.if-most-eq0.false n.1 n.2 (cut w.After-at_most-n) c.channel_of.ensures

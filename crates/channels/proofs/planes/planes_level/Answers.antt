@@ -76,16 +76,16 @@ get_level-requires-in-Nothing c =
 pub returns-in-At-get_level-2 : goal.returns-in-At-get_level-2
 unfolding found ascii
 returns-in-At-get_level-2 c =
+    let w = goal.at.returns-in-At-get_level-2 c in
     let g = c.get_level-3.ensures in (
-      new_planes _ _ _ (metadata (goal.at.returns-in-At-get_level-2 c).In-At) _ (pictures (goal.at.returns-in-At-get_level-2 c).In-At-get_level) _ (sym (ap found c.in-At-get_level-2.is) ∙ g.0),
+      new_planes _ _ _ (metadata w.In-At) _ (pictures w.In-At-get_level) _ (sym (ap found c.in-At-get_level-2.is) ∙ g.0),
       at_within _ _ _ c.in-At-get_level-2.is g.1,
     )
 
 pub returns-in-Nothing : goal.returns-in-Nothing
 unfolding found ascii
-returns-in-Nothing c =
-    (
-      old_planes _ _ _ (metadata (goal.at.returns-in-Nothing c).In-At) _ (pictures (goal.at.returns-in-Nothing c).In-At-get_level)
-          (sym (ap found c.in-Nothing.is) ∙ c.get_level-3.ensures.0) c.get_level-in-Nothing.ensures.0,
-      c.get_level-in-Nothing.ensures.1,
-    )
+returns-in-Nothing c = (
+  old_planes _ _ _ (metadata (goal.at.returns-in-Nothing c).In-At) _ (pictures (goal.at.returns-in-Nothing c).In-At-get_level)
+      (sym (ap found c.in-Nothing.is) ∙ c.get_level-3.ensures.0) c.get_level-in-Nothing.ensures.0,
+  c.get_level-in-Nothing.ensures.1,
+)

@@ -2,7 +2,6 @@
 use Rattle.format.specs.Bytes.{ascii}
 use Rattle.lookup.specs.Table.{entries_in}
 use Rattle.channels.proofs.Records.{channel_is}
-use borrow.Author.Rules.{rules}
 use Rattle.channels.proofs.record.channel_of.Goals as goal
 
 pub returns : goal.returns

@@ -1,6 +1,5 @@
 -- `channels::record::covers_of`: by its uiCompCount.
 use mathlib.Core.Path.{ap, ◌∙◌}
-use borrow.Author.Rules.{rules}
 use Rattle.format.specs.Bytes.{ascii}
 use Rattle.format.specs.Channels.{covers_of, plane_record}
 use Rattle.channels.proofs.record.covers_of.Goals as goal
