@@ -4,5 +4,3 @@ pub mod Rows
 pub mod Readying
 pub mod Promises
 pub mod Lay
-pub mod Again
-pub mod Facts

@@ -13,7 +13,6 @@ use Rattle.format.specs.Sentences.{Refuses, AcceptedUnless, NameAstray, Channels
 use Rattle.format.specs.Refused.Order.{First}
 use Rattle.format.specs.Refused.Channels.{ChannelsRefusal, channels_order, RecordAt, Recorded, Emptied}
 use Rattle.format.specs.Grammar.Channels.{Empty}
-use Rattle.format.specs.declared.Entry.{Entry}
 use Rattle.format.specs.declared.Channel.{Channel}
 use Rattle.format.specs.declared.Summary.{Summary}
 use Rattle.format.proofs.Calls.Channels.{planes_name, channels_number, channels_accepted, channels_refused}
@@ -112,9 +111,10 @@ module _ (s : List ℕ) (u : Summary) (bytes : List ℕ) (row : List Channel) wh
   -- the call's number, table and row, and the sentences that follow
   abbrev pub Filled : ℕ → List ℕ → List Channel → Type 0
   Filled k ts zs =
-      (k ≡ (channels_call s u bytes row).number) × (ts ≡ (channels_call s u bytes row).table) × (zs ≡ (channels_call s u bytes row).row) × (ts ≡ zeros (length bytes))
-      × First Whole channels_order k × AcceptedUnless Whole k × (Refuses k → Emptied (length row) zs) × (k ≡ 0 → Recorded s u (length row) zs)
-      × ChannelsNamed s u (length row) zs
+      (k ≡ (channels_call s u bytes row).number) × (ts ≡ (channels_call s u bytes row).table)
+      × (zs ≡ (channels_call s u bytes row).row) × (ts ≡ zeros (length bytes))
+      × First Whole channels_order k × AcceptedUnless Whole k × (Refuses k → Emptied (length row) zs)
+      × (k ≡ 0 → Recorded s u (length row) zs) × ChannelsNamed s u (length row) zs
 
   pub whole_row : {t : List ℕ} {p : Prepared} {ts : List ℕ} {zs : List Channel}
       → Ready s t (length row) u.components (records_of s u (room_in (length bytes)) (length row)) p

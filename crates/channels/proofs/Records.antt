@@ -3,11 +3,9 @@ use Prim.Native.Nat.{ℕ}
 use mathlib.Core.Path.{◌≡◌, refl, ◌∙◌}
 use mathlib.Core.Bool.{Bool, true, false, cond}
 use mathlib.Core.Option.{Option, none, some}
-use mathlib.Core.List.{List, [], ◌∷◌}
+use mathlib.Core.List.{List}
 use lib.Dec.{eqb}
 use borrow.Author.Tests.{eq-eqb, ne_eqb}
-use denote.Enum.Declared.{tag_of}
-use types.Run.{OneOf, miss}
 use Rattle.format.specs.Bytes.{ascii}
 use Rattle.format.specs.Values.{Value, flag, whole, double, text, bytes, level, list, field_in, bind}
 use Rattle.format.specs.Numbers.{unsigned, below32}
@@ -19,7 +17,6 @@ use Rattle.lookup.specs.declared.ClxValue.{ClxValue}
 use Rattle.lookup.specs.declared.ClxValue.TheVariants as clx
 use Rattle.lookup.specs.declared.Field.{Field}
 use Rattle.lookup.specs.declared.Field.TheVariants.{Is, Absent}
-use Rattle.lookup.specs.contracts.ClxValue.{the_type}
 
 -- ---- the name
 
@@ -39,17 +36,17 @@ module _ (s : List ℕ) (es : List Entry) {f : Field} {r : Channel} where
     text_some {n = n} k z e = rw (h, k, ne_eqb n 0 z) e
 
     -- nor is a value of another kind
-    pub text_other : OneOf (0 ∷ 1 ∷ 2 ∷ 3 ∷ 5 ∷ 6 ∷ 7 ∷ []) (tag_of the_type v) → r ≡ with_color none 0 0 0 → r ≡ with_text (field_meaning s es f) (with_color none)
+    pub text_other : ((a n : ℕ) → v ≡ clx.Text a n → ⊥) → r ≡ with_color none 0 0 0 → r ≡ with_text (field_meaning s es f) (with_color none)
     unfolding field_meaning
     text_other k e = rw h (e ∙ go v k)
       where
-        go : (w : ClxValue) → OneOf (0 ∷ 1 ∷ 2 ∷ 3 ∷ 5 ∷ 6 ∷ 7 ∷ []) (tag_of the_type w)
+        go : (w : ClxValue) → ((a n : ℕ) → w ≡ clx.Text a n → ⊥)
             → with_color none 0 0 0 ≡ with_text (some (meaning s es w)) (with_color none)
         go (clx.Flag b) k = unfold with_text meaning in refl
         go (clx.Whole n) k = unfold with_text meaning in refl
         go (clx.Below n) k = unfold with_text meaning in refl
         go (clx.Double x) k = unfold with_text meaning in refl
-        go (clx.Text a n) k = absurd (miss (0 ∷ 1 ∷ 2 ∷ 3 ∷ 5 ∷ 6 ∷ 7 ∷ []) 4 tt k)
+        go (clx.Text a n) k = absurd (k a n refl)
         go (clx.Bytes a n) k = unfold with_text meaning in refl
         go (clx.Level i) k = unfold with_text meaning in refl
         go (clx.List i) k = unfold with_text meaning in refl

@@ -3,7 +3,7 @@ use Prim.Native.Nat.{ℕ, zero, suc, ◌+◌, ◌-◌, ◌≤◌, ◌<◌, min}
 use mathlib.Core.Path.{◌≡◌, refl, sym, ap, ◌∙◌}
 use mathlib.Core.List.{List, [], ◌∷◌, ◌++◌}
 use native.Mathlib.Omega.{arith}
-use lib.ListN.{length, get_or, replicate, get_or-eq_default}
+use lib.ListN.{get_or, replicate, get_or-eq_default}
 use lib.Seq.{get_or-take, ext_get_or}
 use Rattle.format.specs.Channels.{empty_channel, channel_of, PlaneRecord, plane_record, covered, fitted}
 use Rattle.format.specs.declared.Channel.{Channel}
