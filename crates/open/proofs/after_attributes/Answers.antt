@@ -4,7 +4,6 @@ use Rattle.format.proofs.Ground.Answers.{go_on, stops}
 use Rattle.open.specs.Parts.{after_attributes}
 use Rattle.open.proofs.Saying.{says_as}
 use Rattle.format.specs.Bytes.{ascii}
-use borrow.Author.Rules.{rules}
 use Rattle.open.proofs.after_attributes.Goals as goal
 
 pub recorded_in-e-requires : goal.recorded_in-e-requires

@@ -2,7 +2,6 @@
 use mathlib.Core.Path.{refl, sym, ◌∙◌}
 use Rattle.format.proofs.Ground.Answers.{go_on, stops}
 use Rattle.format.specs.Bytes.{ascii}
-use borrow.Author.Rules.{rules}
 use Rattle.open.proofs.read_attributes.Goals as goal
 
 pub parse_attributes-requires : goal.parse_attributes-requires

@@ -2,7 +2,6 @@
 use mathlib.Core.Path.{refl, sym, ap, ◌∙◌}
 use Rattle.format.specs.Calibration.{calibration_by}
 use Rattle.format.specs.Bytes.{ascii}
-use borrow.Author.Rules.{rules}
 use Rattle.open.proofs.read_calibration.Goals as goal
 
 pub load_calibration-requires : goal.load_calibration-requires

@@ -2,7 +2,6 @@
 use Rattle.format.specs.Bytes.{ascii}
 use Rattle.open.proofs.Saying.{says_as}
 use Rattle.open.proofs.Order.{map_refused, map_looked}
-use borrow.Author.Rules.{rules}
 use Rattle.open.proofs.read_file.Goals as goal
 
 pub data_of-requires : goal.data_of-requires

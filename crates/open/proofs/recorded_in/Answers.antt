@@ -3,7 +3,6 @@ use mathlib.Core.Path.{sym, ap, ◌∙◌}
 use Rattle.format.specs.Bytes.{ascii}
 use Rattle.lookup.specs.Table.{found}
 use Rattle.open.proofs.Running.{no_run, run}
-use borrow.Author.Rules.{rules}
 use Rattle.open.proofs.recorded_in.Goals as goal
 
 pub load_experiment-e-requires : goal.load_experiment-e-requires
@@ -13,11 +12,10 @@ load_experiment-e-requires c = (
 )
 
 pub find_z_step-z-requires : goal.find_z_step-z-requires
-find_z_step-z-requires c =
-    (
-      c.requires,
-      rw c.in-At.is at c.get_level.ensures.1,
-    )
+find_z_step-z-requires c = (
+  c.requires,
+  rw c.in-At.is at c.get_level.ensures.1,
+)
 
 pub returns-in-Nothing : goal.returns-in-Nothing
 unfolding found ascii
