@@ -43,7 +43,8 @@ module _ (s tab : List ℕ) (scene t c z : ℕ) (buf : List ℕ) where
   unfolding border_call open_call plane_after number_of
   after_refused f = go (opened s (room_in (length tab))) f
     where
-      go : (x : Answer Summary) → Refuses (number_of x) → ((plane_after s scene t c z buf x).number ≡ number_of x) × ((plane_after s scene t c z buf x).buffer ≡ buf)
+      go : (x : Answer Summary) → Refuses (number_of x) → ((plane_after s scene t c z buf x).number ≡ number_of x)
+          × ((plane_after s scene t c z buf x).buffer ≡ buf)
       go (refused n) f = (refl, refl)
       go (given u) f = absurd (f refl)
 
@@ -68,7 +69,8 @@ module _ (s tab : List ℕ) (scene t c z : ℕ) (buf : List ℕ) where
 
   abbrev pub Promised : ℕ → List ℕ → List ℕ → Type 0
   Promised n out left =
-      (n ≡ (border_call s tab scene t c z buf).number) × ((left ≡ (border_call s tab scene t c z buf).table) × ((out ≡ (border_call s tab scene t c z buf).samples)
+      (n ≡ (border_call s tab scene t c z buf).number) × ((left ≡ (border_call s tab scene t c z buf).table)
+      × ((out ≡ (border_call s tab scene t c z buf).samples)
       × ((left ≡ zeros (length tab)) × Sentences n out)))
 
   different : (u : Summary) → Joined s u → Different (loops_of u)

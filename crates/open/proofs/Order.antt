@@ -61,12 +61,12 @@ module _ (s : List ℕ) (room : ℕ) (r : Range) (map : List MapEntry) where
   abbrev at : List ℕ → Answer (Option ℕ)
   at name = given (offset_of (data_in s r) name map)
 
-  after_run : (a : Attributes) (es : List Entry) (i : ℕ) (ls : List Loop)
+  after_run_is : (a : Attributes) (es : List Entry) (i : ℕ) (ls : List Loop)
       → refuse_if (ltb most64 (plane_bytes a)) why.frame_shape
       (and_then (calibration s (data_in s r) map room (z_float (z_step most_depth s es i))) λ c. given (summary_of r a ls c))
       ≡ after_run s room r (at (ascii "ImageCalibrationLV|0!")) a (record { loops = ls; step = z_step most_depth s es i })
   unfolding after_run calibration
-  after_run a es i ls = rw (under_listed s room (ascii "ImageCalibrationLV|0!") (data_in s r) map) refl
+  after_run_is a es i ls = rw (under_listed s room (ascii "ImageCalibrationLV|0!") (data_in s r) map) refl
 
   after_attributes_is : (a : Attributes) → listed_after a ≡ after_attributes s room r (at (ascii "ImageMetadataLV!")) (at (ascii "ImageCalibrationLV|0!")) a
   unfolding after_attributes run_in
@@ -75,13 +75,13 @@ module _ (s : List ℕ) (room : ℕ) (r : Range) (map : List MapEntry) where
       (then_same (named_tree s (data_in s r) map room (ascii "ImageMetadataLV!")) _ _ λ es.
       let o = or_refuse (as_level (field s es 0 (ascii "SLxExperiment"))) why.missing in
       then_same o _ _ (λ i.
-      then_same (experiment s es i) _ _ (λ ls. after_run a es i ls ∙ sym (go_on _ _ _ refl refl))
+      then_same (experiment s es i) _ _ (λ ls. after_run_is a es i ls ∙ sym (go_on _ _ _ refl refl))
       ∙ sym (then_then (experiment s es i) _ _))
       ∙ sym (then_then o _ _))
 
-  after_map : listed ≡ after_map s room r (at (ascii "ImageAttributesLV!")) (at (ascii "ImageMetadataLV!")) (at (ascii "ImageCalibrationLV|0!"))
+  after_map_is : listed ≡ after_map s room r (at (ascii "ImageAttributesLV!")) (at (ascii "ImageMetadataLV!")) (at (ascii "ImageCalibrationLV|0!"))
   unfolding after_map
-  after_map =
+  after_map_is =
       rw (under_listed s room (ascii "ImageAttributesLV!") (data_in s r) map)
       (then_same (named_tree s (data_in s r) map room (ascii "ImageAttributesLV!")) _ _
       (λ ts. then_same (attributes s ts) _ _ after_attributes_is)
@@ -105,7 +105,7 @@ module _ (s : List ℕ) (room : ℕ) where
             and_then x (listed s room r)
             ≡ after_map s room r (found (ascii "ImageAttributesLV!")) (found (ascii "ImageMetadataLV!")) (found (ascii "ImageCalibrationLV|0!"))
         go (refused n) = unfold and_then after_map tree_under in refl
-        go (given es) = unfold and_then in after_map s room r es
+        go (given es) = unfold and_then in after_map_is s room r es
 
     -- with what was looked up in the map's data d
     pub map_looked : {d : List ℕ} {x y z : Answer (Option ℕ)} → d ≡ data_in s r → x ≡ find_in d (ascii "ImageAttributesLV!")
