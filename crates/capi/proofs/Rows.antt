@@ -9,7 +9,6 @@ use Rattle.format.proofs.Ground.Bytes.{le_bytes_length}
 use Rattle.format.proofs.Calls.Channels.{channels_accepted, channels_refused}
 use Rattle.format.proofs.Calls.ChannelRecords.{channels_records}
 use Rattle.format.proofs.Demands.FirstAndThird.{first}
-use Rattle.format.specs.Answer.{Answer}
 use Rattle.format.specs.Bytes.{le_bytes, over, zeros, each}
 use Rattle.format.specs.Trees.{room_in}
 use Rattle.format.specs.Channels.{empty_channel, fitted}
@@ -17,7 +16,6 @@ use Rattle.format.specs.Calls.Channels.{records_of, channels_call}
 use Rattle.format.specs.Sentences.{Refuses, AcceptedUnless}
 use Rattle.format.specs.Refused.Order.{First}
 use Rattle.format.specs.Refused.Channels.{ChannelsRefusal, channels_order}
-use Rattle.format.specs.declared.Entry.{Entry}
 use Rattle.format.specs.declared.Channel.{Channel}
 use Rattle.format.specs.declared.Summary.{Summary}
 use Rattle.channels.specs.Ahead.{ahead}
