@@ -175,6 +175,7 @@ fn recorded_in(file: &[u8], table: &[u8], used: usize) -> Recorded
 }
 
 // What a tree that was refused makes of the calibration: a full table refuses the file.
+#[tactic(auto, unfolding(format::specs::Calibration::calibration_by))]
 fn uncalibrated(n: u32) -> Calibrated
     ensures { (s : List ℕ) (z : Option Float) → calibration_of result ≡ calibration_by s z (refused n) }
 {
