@@ -12,7 +12,6 @@ use Rattle.format.specs.Numbers.{signed}
 use Rattle.format.specs.Loops.{loop_params, child_levels}
 use Rattle.format.specs.Calibration.{first_of, is_four, own_step, step_at, z_step}
 use Rattle.format.specs.declared.Entry.{Entry}
-use Rattle.experiment.proofs.Walking.{below}
 
 -- ---- what a level states itself
 
@@ -28,15 +27,19 @@ module _ (s : List ℕ) (es : List Entry) (i : ℕ) (four : Bool) (q : four ≡ 
 -- ---- one level, and those below it
 
 module _ (s : List ℕ) (es : List Entry) (i levels : ℕ) where
+  -- the experiment levels below the level i
+  abbrev kids : List ℕ
+  kids = child_levels s es (field_in s es i (ascii "ppNextLevelEx"))
+
   pub step_zero : levels ≡ 0 → none ≡ z_step levels s es i
   unfolding z_step
   step_zero h = rw h refl
 
   module _ (h : levels ≡ 0 → ⊥) where
-    step_one : z_step levels s es i ≡ or_else (step_at s es i) (first_of (z_step (levels - 1) s es) (below s es i))
+    step_one : z_step levels s es i ≡ or_else (step_at s es i) (first_of (z_step (levels - 1) s es) kids)
     step_one = go levels (levels - 1) (omega arith)
       where
-        go : (l m : ℕ) → l ≡ suc m → z_step l s es i ≡ or_else (step_at s es i) (first_of (z_step m s es) (below s es i))
+        go : (l m : ℕ) → l ≡ suc m → z_step l s es i ≡ or_else (step_at s es i) (first_of (z_step m s es) kids)
         go l m e = unfold z_step in rw e refl
 
     -- the level's own step comes first
@@ -49,7 +52,7 @@ module _ (s : List ℕ) (es : List Entry) (i levels : ℕ) where
         → o ≡ z_step levels s es i
     unfolding or_else ascii
     step_below f l o e p q g =
-        let w : below s es i ≡ l = ap (child_levels s es) (sym p) ∙ q in
+        let w : kids ≡ l = ap (child_levels s es) (sym p) ∙ q in
         sym (step_one ∙ rw (← e, w) (sym g))
 
 -- ---- level after level
