@@ -184,7 +184,12 @@ def main(argv):
                     f.write(new)
     for path in sorted(glob.glob("docs/**/*.md", recursive=True)) + ["README.md", "CONTRIBUTING.md", "CHANGELOG.md"]:
         old = read(path)
-        new = re.sub(r"(?<=`)([a-z][\w'-]*)(?=`)", lambda m: snake(m[0]) if m[0] not in declared | crates and snake(m[0]) in spelled or m[0] in names else m[0], old)
+
+        def one(m):
+            ours = m[0] in names or m[0] not in declared | crates and snake(m[0]) in spelled
+            return snake(m[0]) if ours else m[0]
+
+        new = re.sub(r"(?<=`)([a-z][\w'-]*)(?=`)", one, old)
         if new != old and "--say" not in argv:
             with open(path, "w", encoding="utf-8") as f:
                 f.write(new)
