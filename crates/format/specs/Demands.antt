@@ -18,7 +18,7 @@ use Rattle.format.specs.Refusals as why
 use Rattle.format.specs.Refused.Order.{First, FirstAt}
 use Rattle.format.specs.Refused.Summary.{Sound, Blank}
 use Rattle.format.specs.Refused.Plane.{Within, PlaneRefusal, plane_order}
-use Rattle.format.specs.Refused.Tree.{TreeRefusal, tree_order, Tabled}
+use Rattle.format.specs.Refused.Tree.{TreeRefusal, tree_order}
 use Rattle.format.specs.Refused.Channels.{ChannelsRefusal, channels_order, Recorded, Emptied}
 use Rattle.format.specs.Refused.Open.{TooMany, OpenRefusal, open_order}
 use Rattle.format.specs.Refused.Border.{BorderRefusal, border_order, BorderFirst}
@@ -27,7 +27,6 @@ use Rattle.format.specs.Sentences.{Refuses, AcceptedUnless, AtSome, OpensExactly
 use Rattle.format.specs.declared.Range.{Range}
 use Rattle.format.specs.declared.Axis.{Axis}
 use Rattle.format.specs.declared.Loop.{Loop}
-use Rattle.format.specs.declared.Entry.{Entry}
 use Rattle.format.specs.declared.Channel.{Channel}
 use Rattle.format.specs.declared.Summary.{Summary}
 

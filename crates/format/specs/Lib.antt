@@ -4,6 +4,8 @@ pub mod Bytes
 pub mod Answer
 -- Why a file is turned away: the numbers
 pub mod Refusals
+-- and what an answer of the code stands for
+pub mod Given
 -- Map and chunks
 pub mod Chunks
 pub mod Map

@@ -15,7 +15,7 @@ pub struct Range {
 }
 
 // An axis that a loop runs over: time, focus, points.
-#[derive(Clone, Copy)]
+#[derive(Clone, Copy, Debug, PartialEq, Eq)]
 pub enum Axis {
     T,
     Z,
@@ -23,13 +23,15 @@ pub enum Axis {
 }
 
 // The number of an axis.
-pub fn axis_number(a: Axis) -> u64
-    ensures { result ≡ axis_number a }
-{
-    match a {
-        Axis::T => 0,
-        Axis::Z => 1,
-        Axis::P => 2,
+impl From<Axis> for u64 {
+    ghost from_gives = { λ a n. n ≡ axis_number a };
+
+    fn from(a: Axis) -> u64 {
+        match a {
+            Axis::T => 0,
+            Axis::Z => 1,
+            Axis::P => 2,
+        }
     }
 }
 

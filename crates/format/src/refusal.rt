@@ -1,59 +1,76 @@
-// Document 01, Why a file is turned away: its numbers and those of the change requests, by their trade words.
+// Document 01, Why a file is turned away: its refusals and those of the change requests, by their trade words.
+ghost use Rattle.std.specs.Prelude.{◌≡◌};
+ghost use Rattle.format.specs.Given.{number};
 
-pub const FOREIGN: u32 = 1;
+// Why a file or a call is refused, in the order of the numbers.
+#[derive(Clone, Copy, Debug, PartialEq, Eq)]
+pub enum Refusal {
+    Foreign,
+    Legacy,
+    Tail,
+    Chunk,
+    Map,
+    Cut,
+    Kind,
+    Packed,
+    Deep,
+    Level,
+    Missing,
+    Compression,
+    Bits,
+    FrameShape,
+    LoopKind,
+    LoopCount,
+    AxisTwice,
+    Table,
+    ChannelRow,
+    Summary,
+    Index,
+    Ceiling,
+    NoFrame,
+    FrameShort,
+    Buffer,
+    SheetLong,
+    SheetLayout,
+    SizeRange,
+    ChunkName,
+}
 
-pub const LEGACY: u32 = 2;
-
-pub const TAIL: u32 = 3;
-
-pub const CHUNK: u32 = 4;
-
-pub const MAP: u32 = 5;
-
-pub const CUT: u32 = 6;
-
-pub const KIND: u32 = 7;
-
-pub const PACKED: u32 = 8;
-
-pub const DEEP: u32 = 9;
-
-pub const LEVEL: u32 = 10;
-
-pub const MISSING: u32 = 11;
-
-pub const COMPRESSION: u32 = 12;
-
-pub const BITS: u32 = 13;
-
-pub const FRAME_SHAPE: u32 = 14;
-
-pub const LOOP_KIND: u32 = 15;
-
-pub const LOOP_COUNT: u32 = 16;
-
-pub const AXIS_TWICE: u32 = 17;
-
-pub const TABLE: u32 = 18;
-
-pub const CHANNEL_ROW: u32 = 19;
-
-pub const SUMMARY: u32 = 20;
-
-pub const INDEX: u32 = 21;
-
-pub const CEILING: u32 = 22;
-
-pub const NO_FRAME: u32 = 23;
-
-pub const FRAME_SHORT: u32 = 24;
-
-pub const BUFFER: u32 = 25;
-
-pub const SHEET_LONG: u32 = 26;
-
-pub const SHEET_LAYOUT: u32 = 27;
-
-pub const SIZE_RANGE: u32 = 28;
-
-pub const CHUNK_NAME: u32 = 29;
+impl Refusal {
+    // The number that document 01 gives a refusal.
+    pub fn number(self) -> u32
+        ensures { result ≡ number self }
+    {
+        match self {
+            Refusal::Foreign => 1,
+            Refusal::Legacy => 2,
+            Refusal::Tail => 3,
+            Refusal::Chunk => 4,
+            Refusal::Map => 5,
+            Refusal::Cut => 6,
+            Refusal::Kind => 7,
+            Refusal::Packed => 8,
+            Refusal::Deep => 9,
+            Refusal::Level => 10,
+            Refusal::Missing => 11,
+            Refusal::Compression => 12,
+            Refusal::Bits => 13,
+            Refusal::FrameShape => 14,
+            Refusal::LoopKind => 15,
+            Refusal::LoopCount => 16,
+            Refusal::AxisTwice => 17,
+            Refusal::Table => 18,
+            Refusal::ChannelRow => 19,
+            Refusal::Summary => 20,
+            Refusal::Index => 21,
+            Refusal::Ceiling => 22,
+            Refusal::NoFrame => 23,
+            Refusal::FrameShort => 24,
+            Refusal::Buffer => 25,
+            Refusal::SheetLong => 26,
+            Refusal::SheetLayout => 27,
+            Refusal::SizeRange => 28,
+            Refusal::ChunkName => 29,
+        }
+    }
+}

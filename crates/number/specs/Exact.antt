@@ -1,8 +1,6 @@
 -- Where the z step is exact. Sizes are counted in units of the smallest double, 2 ^ -1074.
-use Rattle.std.specs.Prelude.{◌≡◌, Bool, true, false, ℕ, ◌+◌, ◌-◌, ◌*◌, ◌^◌, ◌≤◌, ◌<◌, Float}
+use Rattle.std.specs.Prelude.{Option, Some, None, ◌≡◌, Bool, true, false, ℕ, ◌+◌, ◌-◌, ◌*◌, ◌^◌, ◌≤◌, ◌<◌, Float}
 use Rattle.std.specs.Float.Ieee.Exact.{HasValue}
-use Rattle.number.specs.declared.Real as Real
-use Rattle.number.specs.declared.Real.TheVariants as reals
 
 -- x is n units, with the sign s: true is the minus
 abbrev pub Units : Float → Bool → ℕ → Type 0
@@ -38,6 +36,6 @@ pub record Exact (count : ℕ) (high low : Float) (step : ℕ) : Type 0 where
   pub divided : step * (count - 1) ≡ apart high_sign high_size low_sign low_size
 
 -- the answer is a step of n units
-abbrev pub Steps : Real.Real → ℕ → Type 0
-Steps (reals.Is x) n = Units x false n
-Steps reals.Absent n = ⊥
+abbrev pub Steps : Option Float → ℕ → Type 0
+Steps (Some x) n = Units x false n
+Steps None n = ⊥

@@ -14,28 +14,6 @@ ghost use Rattle.number.specs.Readings.{natural, integer, real};
 ghost use Rattle.number.specs.Exact.{Exact, Steps};
 ghost use Rattle.number.specs.Patterns.{Highest, Nearest, Narrowed};
 
-// What an unsigned reading gives.
-#[derive(Clone, Copy)]
-pub enum Natural {
-    Is(u64),
-    Absent,
-}
-
-// What a signed reading gives: Below(n) is the number -1 - n.
-#[derive(Clone, Copy)]
-pub enum Integer {
-    Is(u64),
-    Below(u64),
-    Absent,
-}
-
-// A double that may be absent.
-#[derive(Clone, Copy)]
-pub enum Real {
-    Is(f64),
-    Absent,
-}
-
 // An f64's pattern: its sign, the leading digit that is not written, and the infinity, above which the NaNs are.
 const SIGN: u64 = 0x8000_0000_0000_0000;
 
@@ -100,58 +78,58 @@ pub fn magnitude(x: f64) -> f64
 // ---- to whole numbers
 
 // n / 2^shift, where that leaves nothing over.
-fn whole_quotient(n: u64, shift: u64) -> Natural
+fn whole_quotient(n: u64, shift: u64) -> Option<u64>
     requires { shift < 64 }
     ensures { natural result ≡ cond (eqb (n % 2 ^ shift) 0) (some (n / 2 ^ shift)) none }
 {
     let whole = n >> shift;
     if whole << shift == n {
-        Natural::Is(whole)
+        Some(whole)
     } else {
-        Natural::Absent
+        None
     }
 }
 
 // The whole number that a pattern without a sign is. Absent: a fraction, 2^64 and above, an infinity, a NaN.
-fn whole_number(bits: u64) -> Natural
+fn whole_number(bits: u64) -> Option<u64>
     requires { bits < 0x8000_0000_0000_0000 }
     ensures { natural result ≡ Numbers.unsigned (double (Ieee.of_bits binary64 bits)) }
 {
     let exponent = bits / LEADING;
     let digits = LEADING + bits % LEADING;
     if bits == 0 {
-        Natural::Is(0)
+        Some(0)
     } else if exponent < 1023 {
-        Natural::Absent
+        None
     } else if exponent < 1076 {
         whole_quotient(digits, 1075 - exponent)
     } else if exponent < 1087 {
-        Natural::Is(digits << (exponent - 1075))
+        Some(digits << (exponent - 1075))
     } else {
-        Natural::Absent
+        None
     }
 }
 
 // The unsigned reading: what is below 0 is absent too, and -0 is 0.
-pub fn unsigned(x: f64) -> Natural
+pub fn unsigned(x: f64) -> Option<u64>
     ensures { natural result ≡ Numbers.unsigned (double x) }
 {
     let bits = double_bits(x);
     if bits > SIGN {
-        Natural::Absent
+        None
     } else {
         whole_number(bits % SIGN)
     }
 }
 
 // The signed reading: absent outside i64.
-pub fn signed(x: f64) -> Integer
+pub fn signed(x: f64) -> Option<i64>
     ensures { integer result ≡ Numbers.signed (double x) }
 {
     let bits = double_bits(x);
     match whole_number(bits % SIGN) {
-        Natural::Absent => Integer::Absent,
-        Natural::Is(n) => {
+        None => None,
+        Some(n) => {
             if bits < SIGN {
                 signed_whole(n)
             } else {
@@ -162,36 +140,33 @@ pub fn signed(x: f64) -> Integer
 }
 
 // The signed reading of a whole number: absent from 2^63 on.
-pub fn signed_whole(n: u64) -> Integer
+pub fn signed_whole(n: u64) -> Option<i64>
     ensures { integer result ≡ Numbers.signed (whole (pos n)) }
 {
-    if n < SIGN {
-        Integer::Is(n)
-    } else {
-        Integer::Absent
-    }
+    if n < SIGN { Some(n as i64) } else { None }
+}
+
+// The number -1 - n.
+fn below(n: u64) -> i64
+    requires { n < 2 ^ 63 }
+    ensures { result ≡ negsuc n }
+{
+    -1 - n as i64
 }
 
 // The signed reading of -1 - n: absent below -2^63.
-pub fn signed_below(n: u64) -> Integer
+#[tactic(auto, unfolding(format::specs::Numbers::signed, format::specs::Values::bind))]
+pub fn signed_below(n: u64) -> Option<i64>
     ensures { integer result ≡ Numbers.signed (whole (negsuc n)) }
 {
-    if n < SIGN {
-        Integer::Below(n)
-    } else {
-        Integer::Absent
-    }
+    if n < SIGN { Some(below(n)) } else { None }
 }
 
 // The signed reading of -n.
-fn negated(n: u64) -> Integer
+fn negated(n: u64) -> Option<i64>
     ensures { integer result ≡ Numbers.signed (whole (neg_ℤ (pos n))) }
 {
-    if n == 0 {
-        Integer::Is(0)
-    } else {
-        signed_below(n - 1)
-    }
+    if n == 0 { Some(0) } else { signed_below(n - 1) }
 }
 
 // ---- roundings
@@ -306,25 +281,21 @@ pub fn positive(x: f64) -> bool
 }
 
 // A z step as stated, without a minus sign; none where it is 0.
-pub fn stated_step(x: f64) -> Real
+pub fn stated_step(x: f64) -> Option<f64>
     ensures { real result ≡ Calibration.stated_step (some x) }
 {
-    if x != 0.0 {
-        Real::Is(magnitude(x))
-    } else {
-        Real::Absent
-    }
+    if x != 0.0 { Some(magnitude(x)) } else { None }
 }
 
 // The z step of a stack of `count` from `low` to `high`: exact where the distance and the step are doubles.
-pub fn span_step(count: u64, high: f64, low: f64) -> Real
+pub fn span_step(count: u64, high: f64, low: f64) -> Option<f64>
     ensures step { real result ≡ Calibration.span_step count (some high) (some low) }
     ensures exact { (step : ℕ) → Exact count high low step → Steps result step }
 {
     if count > 1 {
-        Real::Is(magnitude(high - low) / (of_whole(count) - 1.0))
+        Some(magnitude(high - low) / (of_whole(count) - 1.0))
     } else {
-        Real::Absent
+        None
     }
 }
 

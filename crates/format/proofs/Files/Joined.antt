@@ -27,7 +27,7 @@ use Rattle.format.specs.Bytes.{ascii, most64}
 use Rattle.format.specs.Chunks.{data_in}
 use Rattle.format.specs.declared.Range.{Range}
 use Rattle.format.specs.Map.{MapEntry, map_entries, map_range}
-use Rattle.format.specs.Trees.{at, tree_in, most_depth, named_tree}
+use Rattle.format.specs.Trees.{tree_in, most_depth, named_tree}
 use Rattle.format.specs.Values.{field, level, as_level}
 use Rattle.format.specs.declared.Attributes.{Attributes}
 use Rattle.format.specs.Attributes.{attributes, plane_bytes}

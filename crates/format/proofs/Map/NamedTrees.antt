@@ -23,7 +23,7 @@ use Rattle.format.specs.Bytes.{le_at, part, same}
 use Rattle.format.specs.declared.Range.{Range}
 use Rattle.format.specs.Chunks.{chunk_mark, chunk_data, data_in}
 use Rattle.format.specs.Map.{MapEntry, end_mark, map_name, map_entries, offset_of, map_range, named_chunk}
-use Rattle.format.specs.Trees.{at, fault, Read, tree_in, within, whole_tree as whole_tree, named_tree}
+use Rattle.format.specs.Trees.{fault, Read, tree_in, within, whole_tree as whole_tree, named_tree}
 use Rattle.format.specs.Grammar.Chunks.{Chunk}
 use Rattle.format.specs.Grammar.Map.{Mapped, Named}
 use Rattle.format.specs.Grammar.Trees.{Tree}
