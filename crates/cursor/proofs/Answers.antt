@@ -7,57 +7,56 @@ use native.Mathlib.Omega.{arith}
 use borrow.Author.Tests.{lt-ltb, le-ltb, le-leb, lt-leb, ne_eqb}
 use lib.ListN.{length, get_or}
 use lib.Dec.{eqb}
+use Rattle.std.specs.Prelude.{Some, None, Result, Ok, Err}
 use Rattle.format.proofs.Trees.ByRules.{records_step}
 use Rattle.format.specs.Bytes.{le_at}
 use Rattle.format.specs.Text.{units}
-use Rattle.format.specs.Trees.{at, fault, Read, ends, follow, fixed_value, text_units, text_value, bytes_value, Children, level_value, level_end, fixed_len}
+use Rattle.format.specs.Trees.{fault, Read, ends, follow, fixed_value, text_units, text_value, bytes_value, Children, level_value, level_end, fixed_len}
 use Rattle.format.specs.Trees.{value, known, ChildrenAt, record_at, records}
 use Rattle.format.specs.declared.Entry.{Entry}
 use Rattle.cursor.proofs.Reading.{was_cut, was_got}
 use Rattle.cursor.specs.Words.{Within, to, word_of, word_at}
+use Rattle.format.specs.Given.{number}
+use Rattle.format.specs.declared.refusal.Refusal.{Refusal}
+use Rattle.format.specs.declared.refusal.Refusal.TheVariants as is
 use Rattle.cursor.specs.declared.Cursor.{Cursor}
-use Rattle.cursor.specs.declared.Word.TheVariants.{Got, Cut}
 use Rattle.cursor.specs.Steps.{HeadRead, LeafRead, LevelRead, Skipped}
-use Rattle.cursor.specs.declared.record.Head.TheVariants.{Named, Bad, End}
 use Rattle.cursor.specs.declared.record.Leaf.{Leaf}
-use Rattle.cursor.specs.declared.record.Leaf.TheVariants.{Value, Wrong}
-use Rattle.cursor.specs.declared.record.Level.TheVariants.{Inner, Unfit}
-use Rattle.cursor.specs.declared.record.Skip.TheVariants.{Past, Short}
 
 -- ---- a record's head
 
-pub head_end : (d : List ℕ) (c : Cursor) → c.end - c.at < 2 → HeadRead d c End
+pub head_end : (d : List ℕ) (c : Cursor) → c.end - c.at < 2 → HeadRead d c (Ok None)
 unfolding records
 head_end d c h = record { says = λ base children parent count used. rw (lt-ltb c.end (c.at + 2) (omega arith)); good = tt }
 
 -- the head at i, of type k and with a name of m units, in a level that ends at e
 module _ (d : List ℕ) {i e k m : ℕ} (two : i + 2 ≤ e) (kind : k ≡ get_or d i 0) (count : m ≡ get_or d (i + 1) 0) where
-  bad : (x : ℕ) → ((base : ℕ) (children : ChildrenAt) (parent used : ℕ) → record_at d base children parent used i e ≡ ends (fault x))
-      → HeadRead d (to i e) (Bad x)
+  bad : (x : Refusal) → ((base : ℕ) (children : ChildrenAt) (parent used : ℕ) → record_at d base children parent used i e ≡ ends (fault (number x)))
+      → HeadRead d (to i e) (Err x)
   unfolding follow
   bad x q = record { says = λ base children parent n used. records_step d base children parent n used i e two ∙ rw (q base children parent used); good = tt }
 
-  pub head_packed : k ≡ 76 → HeadRead d (to i e) (Bad 8)
+  pub head_packed : k ≡ 76 → HeadRead d (to i e) (Err is.Packed)
   unfolding record_at
-  head_packed h = bad 8 λ base children parent used. rw (← kind, h)
+  head_packed h = bad is.Packed λ base children parent used. rw (← kind, h)
 
   module _ (plain : k ≡ 76 → ⊥) where
-    pub head_early : (eqb k 0 || eqb k 10) ≡ true → HeadRead d (to i e) (Bad 7)
+    pub head_early : (eqb k 0 || eqb k 10) ≡ true → HeadRead d (to i e) (Err is.Kind)
     unfolding record_at
-    head_early h = bad 7 λ base children parent used. rw (← kind, ne_eqb k 76 plain, h)
+    head_early h = bad is.Kind λ base children parent used. rw (← kind, ne_eqb k 76 plain, h)
 
     module _ (late : (eqb k 0 || eqb k 10) ≡ false) where
-      pub head_cut : (e - (i + 2)) / 2 < m → HeadRead d (to i e) (Bad 6)
+      pub head_cut : (e - (i + 2)) / 2 < m → HeadRead d (to i e) (Err is.Cut)
       unfolding record_at
-      head_cut h = bad 6 λ base children parent used. rw (← kind, ← count, ne_eqb k 76 plain, late, lt-ltb e (i + 2 + 2 * m) (omega arith))
+      head_cut h = bad is.Cut λ base children parent used. rw (← kind, ← count, ne_eqb k 76 plain, late, lt-ltb e (i + 2 + 2 * m) (omega arith))
 
       module _ (fits : m ≤ (e - (i + 2)) / 2) where
-        pub head_unknown : known k ≡ false → HeadRead d (to i e) (Bad 7)
+        pub head_unknown : known k ≡ false → HeadRead d (to i e) (Err is.Kind)
         unfolding record_at
-        head_unknown h = bad 7 λ base children parent used. rw (← kind, ← count, ne_eqb k 76 plain, late, le-ltb e (i + 2 + 2 * m) (omega arith), h)
+        head_unknown h = bad is.Kind λ base children parent used. rw (← kind, ← count, ne_eqb k 76 plain, late, le-ltb e (i + 2 + 2 * m) (omega arith), h)
 
         pub head_named : {u : ℕ} → e ≤ length d → known k ≡ true → u ≡ m - 1
-            → HeadRead d (to i e) (Named (record { kind = k; start = i; units = u }) (to (i + 2 + 2 * m) e))
+            → HeadRead d (to i e) (Ok (Some (record { kind = k; start = i; units = u }, to (i + 2 + 2 * m) e)))
         unfolding record_at
         head_named w h q =
             record {
@@ -69,7 +68,7 @@ module _ (d : List ℕ) {i e k m : ℕ} (two : i + 2 ≤ e) (kind : k ≡ get_or
 
 -- ---- a value that is no level
 
-pub leaf_same : {d : List ℕ} {e : ℕ} {r : Leaf} (f g : (ℕ → ℕ → Entry) → Read) → ((entry : ℕ → ℕ → Entry) → f entry ≡ g entry) → LeafRead d e g r
+pub leaf_same : {d : List ℕ} {e : ℕ} {r : Result Leaf Refusal} (f g : (ℕ → ℕ → Entry) → Read) → ((entry : ℕ → ℕ → Entry) → f entry ≡ g entry) → LeafRead d e g r
     → LeafRead d e f r
 leaf_same f g q l = record { says = λ entry. rw (q entry) (l.says entry); good = l.good }
 
@@ -92,11 +91,11 @@ module _ (d : List ℕ) (children : Children) (k start i e : ℕ) where
   value_level h entry = rw h
 
 module _ (d : List ℕ) (c : Cursor) (w : Within c d) where
-  pub fixed_cut : (n : ℕ) → c.end - c.at < n → LeafRead d c.end (fixed_value n c.at c.end) (Wrong 6)
+  pub fixed_cut : (n : ℕ) → c.end - c.at < n → LeafRead d c.end (fixed_value n c.at c.end) (Err is.Cut)
   unfolding fixed_value
   fixed_cut n h = record { says = λ entry. record { one = refl; stops = rw (lt-leb (c.at + n) c.end (omega arith)) }; good = tt }
 
-  pub fixed_read : (n : ℕ) → n ≤ c.end - c.at → LeafRead d c.end (fixed_value n c.at c.end) (Value c.at n (to (c.at + n) c.end))
+  pub fixed_read : (n : ℕ) → n ≤ c.end - c.at → LeafRead d c.end (fixed_value n c.at c.end) (Ok (record { at = c.at; size = n; next = to (c.at + n) c.end }))
   unfolding fixed_value
   fixed_read n h =
       record {
@@ -105,7 +104,7 @@ module _ (d : List ℕ) (c : Cursor) (w : Within c d) where
       }
 
   module _ {n : ℕ} (size : n ≡ 2 * text_units (units ((c.end - c.at) / 2) d c.at)) (fits : c.at + n ≤ c.end) where
-    pub text_cut : c.end - (c.at + n) < 2 → LeafRead d c.end (text_value d c.at c.end) (Value c.at n (to (c.at + n) c.end))
+    pub text_cut : c.end - (c.at + n) < 2 → LeafRead d c.end (text_value d c.at c.end) (Ok (record { at = c.at; size = n; next = to (c.at + n) c.end }))
     unfolding text_value
     text_cut h =
         record {
@@ -113,7 +112,7 @@ module _ (d : List ℕ) (c : Cursor) (w : Within c d) where
           good = (record { order = fits; inside = w.inside }, refl, w.order);
         }
 
-    pub text_ended : 2 ≤ c.end - (c.at + n) → LeafRead d c.end (text_value d c.at c.end) (Value c.at n (to (c.at + n + 2) c.end))
+    pub text_ended : 2 ≤ c.end - (c.at + n) → LeafRead d c.end (text_value d c.at c.end) (Ok (record { at = c.at; size = n; next = to (c.at + n + 2) c.end }))
     unfolding text_value
     text_ended h =
         record {
@@ -121,49 +120,31 @@ module _ (d : List ℕ) (c : Cursor) (w : Within c d) where
           good = (record { order = omega arith; inside = w.inside }, refl, w.order);
         }
 
-  pub bytes_unsized : word_at 8 d c ≡ word_of Cut → LeafRead d c.end (bytes_value d c.at c.end) (Wrong 6)
+  pub bytes_unsized : (x : Refusal) → word_at 8 d c ≡ word_of (Err x) → LeafRead d c.end (bytes_value d c.at c.end) (Err x)
   unfolding bytes_value
-  bytes_unsized h =
-      let l = was_cut 8 d c h in
-      record { says = λ entry. record { one = refl; stops = rw (lt-leb (c.at + 8) c.end (omega arith)) }; good = tt }
+  bytes_unsized x h =
+      let (l, q) = was_cut 8 d c x h in
+      record { says = λ entry. record { one = refl; stops = rw (q, lt-leb (c.at + 8) c.end (omega arith)) }; good = tt }
 
-  module _ {n : ℕ} {v : Cursor} (size : word_at 8 d c ≡ word_of (Got n v)) where
-    pub bytes_cut : v.end - v.at < n → LeafRead d c.end (bytes_value d c.at c.end) (Wrong 6)
-    unfolding bytes_value
-    bytes_cut h =
-        let (l, q, p) = was_got 8 d c size in
-        let h' : c.end - (c.at + 8) < n = rw p at h in
-        record {
-          says =
-              λ entry. record {
-                one = refl;
-                stops = rw (← q, le-leb (c.at + 8) c.end (omega (arith, w.order)), lt-leb (c.at + 8 + n) c.end (omega arith));
-              };
-          good = tt;
-        }
-
-    pub bytes_read : n ≤ v.end - v.at → LeafRead d c.end (bytes_value d c.at c.end) (Value v.at n (to (v.at + n) v.end))
-    unfolding bytes_value
-    bytes_read h =
-        let (l, q, p) = was_got 8 d c size in
-        let h' : n ≤ c.end - (c.at + 8) = rw p at h in
-        rw p
-        (record {
-          says = λ entry. rw (← q, le-leb (c.at + 8) c.end (omega (arith, w.order)), le-leb (c.at + 8 + n) c.end (omega (arith, w.order)));
-          good = (record { order = omega (arith, w.order); inside = w.inside }, refl, omega (arith, w.order));
-        })
+  -- behind their size they are a value of so many bytes
+  pub bytes_sized : {n : ℕ} {v : Cursor} {r : Result Leaf Refusal} → word_at 8 d c ≡ word_of (Ok (n, v)) → LeafRead d v.end (fixed_value n v.at v.end) r
+      → LeafRead d c.end (bytes_value d c.at c.end) r
+  unfolding bytes_value fixed_value
+  bytes_sized size f =
+      let (l, q, p) = was_got 8 d c size in
+      leaf_same _ _ (λ entry. rw (← q, le-leb (c.at + 8) c.end (omega (arith, w.order)))) (rw p at f)
 
 -- ---- a level's header
 
 module _ (d : List ℕ) (c : Cursor) (w : Within c d) {start : ℕ} (before : start ≤ c.at) where
-  pub level_uncounted : word_at 4 d c ≡ word_of Cut → LevelRead d start c (Unfit 6)
+  pub level_uncounted : (x : Refusal) → word_at 4 d c ≡ word_of (Err x) → LevelRead d start c (Err x)
   unfolding level_value
-  level_uncounted h =
-      let l = was_cut 4 d c h in
-      record { says = λ children entry. rw (lt-ltb c.end (c.at + 4) (omega arith)) (record { one = refl; stops = refl }); good = tt }
+  level_uncounted x h =
+      let (l, q) = was_cut 4 d c x h in
+      record { says = λ children entry. rw (lt-ltb c.end (c.at + 4) (omega arith)) (record { one = refl; stops = rw q refl }); good = tt }
 
-  module _ {k : ℕ} {l : Cursor} (counted : word_at 4 d c ≡ word_of (Got k l)) where
-    pub level_many : 10_000_000 < k → LevelRead d start c (Unfit 10)
+  module _ {k : ℕ} {l : Cursor} (counted : word_at 4 d c ≡ word_of (Ok (k, l))) where
+    pub level_many : 10_000_000 < k → LevelRead d start c (Err is.Level)
     unfolding level_value
     level_many h =
         let (l, q, p) = was_got 4 d c counted in
@@ -173,11 +154,11 @@ module _ (d : List ℕ) (c : Cursor) (w : Within c d) {start : ℕ} (before : st
         }
 
     module _ (few : k ≤ 10_000_000) where
-      pub level_unsized : word_at 8 d l ≡ word_of Cut → LevelRead d start c (Unfit 6)
+      pub level_unsized : (x : Refusal) → word_at 8 d l ≡ word_of (Err x) → LevelRead d start c (Err x)
       unfolding level_value
-      level_unsized h =
+      level_unsized x h =
           let (a, q, p) = was_got 4 d c counted in
-          let b = was_cut 8 d l h in
+          let (b, z) = was_cut 8 d l x h in
           let b' : c.end - (c.at + 4) < 8 = rw p at b in
           record {
             says =
@@ -186,11 +167,11 @@ module _ (d : List ℕ) (c : Cursor) (w : Within c d) {start : ℕ} (before : st
                   ← q,
                   le-ltb 10_000_000 k few,
                   lt-ltb c.end (c.at + 12) (omega arith),
-                ) (record { one = refl; stops = refl });
+                ) (record { one = refl; stops = rw z refl });
             good = tt;
           }
 
-      module _ {n : ℕ} {v : Cursor} (sized : word_at 8 d l ≡ word_of (Got n v)) where
+      module _ {n : ℕ} {v : Cursor} (sized : word_at 8 d l ≡ word_of (Ok (n, v))) where
         -- the two numbers, and where the children begin
         numbers : (k ≡ le_at 4 d c.at) × (n ≡ le_at 8 d (c.at + 4)) × (v.at ≡ c.at + 12) × (v.end ≡ c.end) × (c.at + 12 ≤ c.end)
         numbers =
@@ -201,7 +182,7 @@ module _ (d : List ℕ) (c : Cursor) (w : Within c d) {start : ℕ} (before : st
             let b' : 8 ≤ c.end - (c.at + 4) = rw p at b in
             (q, r', rw z' (omega arith), rw z', omega (arith, w.order))
 
-        pub level_short : n < v.at - start → LevelRead d start c (Unfit 10)
+        pub level_short : n < v.at - start → LevelRead d start c (Err is.Level)
         unfolding level_value
         level_short h =
             let (q, r, a, e, f) = numbers in
@@ -220,7 +201,7 @@ module _ (d : List ℕ) (c : Cursor) (w : Within c d) {start : ℕ} (before : st
             }
 
         module _ (enough : v.at - start ≤ n) where
-          pub level_past : v.end - v.at < n - (v.at - start) → LevelRead d start c (Unfit 6)
+          pub level_past : v.end - v.at < n - (v.at - start) → LevelRead d start c (Err is.Cut)
           unfolding level_value
           level_past h =
               let (q, r, a, e, f) = numbers in
@@ -239,7 +220,7 @@ module _ (d : List ℕ) (c : Cursor) (w : Within c d) {start : ℕ} (before : st
                 good = tt;
               }
 
-          pub level_inner : n - (v.at - start) ≤ v.end - v.at → LevelRead d start c (Inner k (to v.at (start + n)) (to (start + n) v.end))
+          pub level_inner : n - (v.at - start) ≤ v.end - v.at → LevelRead d start c (Ok (record { count = k; inner = to v.at (start + n); after = to (start + n) v.end }))
           unfolding level_value
           level_inner h =
               let (q, r, a, e, f) = numbers in
@@ -267,10 +248,10 @@ module _ (d : List ℕ) (c : Cursor) (w : Within c d) {start : ℕ} (before : st
 -- ---- a level's end
 
 module _ (c : Cursor) (k : ℕ) where
-  pub skip_cut : (c.end - c.at) / 8 < k → Skipped c k Short
+  pub skip_cut : (c.end - c.at) / 8 < k → Skipped c k (Err is.Cut)
   unfolding level_end
   skip_cut h = record { says = rw (lt-leb (c.at + 8 * k) c.end (omega arith)); good = tt }
 
-  pub skip_done : c.at ≤ c.end → k ≤ (c.end - c.at) / 8 → Skipped c k (Past (to (c.at + 8 * k) c.end))
+  pub skip_done : c.at ≤ c.end → k ≤ (c.end - c.at) / 8 → Skipped c k (Ok (to (c.at + 8 * k) c.end))
   unfolding level_end
   skip_done o h = record { says = rw (le-leb (c.at + 8 * k) c.end (omega arith)); good = (omega arith, refl) }

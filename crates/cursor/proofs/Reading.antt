@@ -6,36 +6,39 @@ use mathlib.Core.List.{List}
 use native.Mathlib.Omega.{arith}
 use borrow.Author.Tests.{lt-ltb, le-ltb, ltb-true, ltb-false}
 use lib.Dec.{ltb}
+use Rattle.std.specs.Prelude.{Ok, Err}
 use Rattle.format.specs.Bytes.{le_at}
 use Rattle.cursor.specs.Words.{to, Within, word_of, word_at, GoodWord}
+use Rattle.format.specs.Given.{number}
+use Rattle.format.specs.declared.refusal.Refusal.{Refusal}
+use Rattle.format.specs.declared.refusal.Refusal.TheVariants.{Cut}
 use Rattle.cursor.specs.declared.Cursor.{Cursor}
-use Rattle.cursor.specs.declared.Word.TheVariants.{Got, Cut}
 
 module _ (n : ℕ) (s : List ℕ) (c : Cursor) where
-  pub cut : c.end - c.at < n → (word_of Cut ≡ word_at n s c) × GoodWord s c n Cut
+  pub cut : c.end - c.at < n → (word_of (Err Cut) ≡ word_at n s c) × GoodWord s c n (Err Cut)
   unfolding word_at
-  cut h = (rw (lt-ltb _ _ h), tt)
+  cut h = (rw (lt-ltb _ _ h), refl)
 
   pub got : Within c s → n ≤ c.end - c.at → {v : ℕ} → v ≡ le_at n s c.at
-      → (word_of (Got v (to (c.at + n) c.end)) ≡ word_at n s c) × GoodWord s c n (Got v (to (c.at + n) c.end))
+      → (word_of (Ok (v, to (c.at + n) c.end)) ≡ word_at n s c) × GoodWord s c n (Ok (v, to (c.at + n) c.end))
   unfolding word_at
   got w h e = (rw (le-ltb _ _ h, e), (record { order = omega arith; inside = omega arith }, refl, refl))
 
   -- what an answer tells
-  pub was_cut : word_at n s c ≡ word_of Cut → c.end - c.at < n
+  pub was_cut : (x : Refusal) → word_at n s c ≡ word_of (Err x) → (c.end - c.at < n) × (number x ≡ 6)
   unfolding word_at
-  was_cut e = go (ltb (c.end - c.at) n) refl e
+  was_cut x e = go (ltb (c.end - c.at) n) refl e
     where
-      go : (b : Bool) → ltb (c.end - c.at) n ≡ b → cond b (word_of Cut) (word_of (Got (le_at n s c.at) (to (c.at + n) c.end))) ≡ word_of Cut
-          → c.end - c.at < n
-      go true q e = ltb-true _ _ q
+      go : (b : Bool) → ltb (c.end - c.at) n ≡ b → cond b (word_of (Err Cut)) (word_of (Ok (le_at n s c.at, to (c.at + n) c.end))) ≡ word_of (Err x)
+          → (c.end - c.at < n) × (number x ≡ 6)
+      go true q e = (ltb-true _ _ q, cc)
       go false q e = absurd (let z : ◌≡◌ {A = ℕ} 0 1 = cc in omega arith)
 
-  pub was_got : {v : ℕ} {d : Cursor} → word_at n s c ≡ word_of (Got v d) → (n ≤ c.end - c.at) × (v ≡ le_at n s c.at) × (d ≡ to (c.at + n) c.end)
+  pub was_got : {v : ℕ} {d : Cursor} → word_at n s c ≡ word_of (Ok (v, d)) → (n ≤ c.end - c.at) × (v ≡ le_at n s c.at) × (d ≡ to (c.at + n) c.end)
   unfolding word_at
   was_got {v} {d} e = go (ltb (c.end - c.at) n) refl e
     where
-      go : (b : Bool) → ltb (c.end - c.at) n ≡ b → cond b (word_of Cut) (word_of (Got (le_at n s c.at) (to (c.at + n) c.end))) ≡ word_of (Got v d)
+      go : (b : Bool) → ltb (c.end - c.at) n ≡ b → cond b (word_of (Err Cut)) (word_of (Ok (le_at n s c.at, to (c.at + n) c.end))) ≡ word_of (Ok (v, d))
           → (n ≤ c.end - c.at) × (v ≡ le_at n s c.at) × (d ≡ to (c.at + n) c.end)
       go true q e = absurd (let z : ◌≡◌ {A = ℕ} 0 1 = cc in omega arith)
       go false q e =

@@ -1,84 +1,57 @@
 // Little-endian numbers in lent bytes, read and written, and the by-value cursor: a place in a slice and the end of the part that is read.
 #![tactic(auto)]
 
-ghost use Rattle.std.specs.Prelude.{◌≡◌, ◌+◌, ◌^◌, ◌≤◌, ◌<◌, length};
+ghost use Rattle.std.specs.Prelude.{◌≡◌, ◌+◌, ◌^◌, ◌≤◌, ◌<◌, true, false, length};
 ghost use Rattle.std.proofs.lemmas.List.Edits.{sets};
 ghost use Rattle.format.specs.Bytes.{le_at, le_bytes, zeros};
-ghost use Rattle.cursor.specs.Words.{Within, word_of, word_at, GoodWord};
+ghost use Rattle.cursor.specs.Words.{Within, word_of, word_at, GoodWord, SameBytes};
+
+use format::refusal::Refusal;
 
 pub mod record; // a record's head, its value, a level's header
 
-// A byte as a number.
-pub fn wide(x: u8) -> u64
-    ensures { (result ≡ x) × (result < 256) }
+// The number in the N bytes at `at`.
+pub fn le<const N: usize>(s: &[u8], at: usize) -> u64
+    requires { (N ≤ 8) × (at + N ≤ length s.now) }
+    ensures { (result ≡ le_at N s.now at) × (result < 256 ^ N) }
 {
-    x as u64
+    let mut v = 0;
+    for i in (0..N).rev() {
+        v = 256 * v + u64::from(s[at + i]);
+    }
+    v
 }
 
-// The number in the two bytes at `at`.
-pub fn le2(s: &[u8], at: usize) -> u64
-    requires { at + 2 ≤ length s.now }
-    ensures { (result ≡ le_at 2 s.now at) × (result < 2 ^ 16) }
+// Stores the N low bytes of v in the N bytes at `at`.
+pub fn put<const N: usize>(d: &mut [u8], at: usize, v: u64)
+    requires { at + N ≤ length d.old }
+    ensures { d.new ≡ sets d.old at (le_bytes N v) }
 {
-    let low = wide(s[at]);
-    let high = wide(s[at + 1]);
-    low + 256 * high
-}
-
-// The number in the four bytes at `at`.
-pub fn le4(s: &[u8], at: usize) -> u64
-    requires { at + 4 ≤ length s.now }
-    ensures { (result ≡ le_at 4 s.now at) × (result < 2 ^ 32) }
-{
-    le2(s, at) + 65536 * le2(s, at + 2)
-}
-
-// The number in the eight bytes at `at`.
-pub fn le8(s: &[u8], at: usize) -> u64
-    requires { at + 8 ≤ length s.now }
-    ensures { result ≡ le_at 8 s.now at }
-{
-    le4(s, at) + 4294967296 * le4(s, at + 4)
-}
-
-// Stores v in the two bytes at `at`.
-pub fn put2(d: &mut [u8], at: usize, v: u64)
-    requires { at + 2 ≤ length d.old }
-    ensures { d.new ≡ sets d.old at (le_bytes 2 v) }
-{
-    d[at] = (v % 256) as u8;
-    d[at + 1] = (v / 256 % 256) as u8;
-}
-
-// Stores v in the four bytes at `at`.
-pub fn put4(d: &mut [u8], at: usize, v: u64)
-    requires { (at + 4 ≤ length d.old) × (v < 2 ^ 32) }
-    ensures { d.new ≡ sets d.old at (le_bytes 4 v) }
-{
-    d[at] = (v % 256) as u8;
-    d[at + 1] = (v / 256 % 256) as u8;
-    d[at + 2] = (v / 65536 % 256) as u8;
-    d[at + 3] = (v / 16777216 % 256) as u8;
-}
-
-// Stores v in the eight bytes at `at`.
-pub fn put8(d: &mut [u8], at: usize, v: u64)
-    requires { at + 8 ≤ length d.old }
-    ensures { d.new ≡ sets d.old at (le_bytes 8 v) }
-{
-    put4(d, at, v % 4294967296);
-    put4(d, at + 4, v / 4294967296);
+    let mut rest = v;
+    for i in 0..N {
+        d[at + i] = (rest % 256) as u8;
+        rest /= 256;
+    }
 }
 
 // Makes every byte zero.
 pub fn clear(d: &mut [u8])
     ensures { d.new ≡ zeros (length d.old) }
 {
-    let mut i = 0;
-    while i < d.len() {
-        d[i] = 0;
-        i += 1;
+    d.fill(0);
+}
+
+// Whether the N bytes of a from `at` on and those of b from `from` on are the same, with no branch for each.
+pub fn same_bytes<const N: usize>(a: &[u8], at: usize, b: &[u8], from: usize) -> bool
+    requires { (at + N ≤ length a.now) × (from + N ≤ length b.now) }
+    ensures yes { result ≡ true → SameBytes a.now at b.now from N }
+    ensures no { result ≡ false → SameBytes a.now at b.now from N → ⊥ }
+{
+    let mut same = true;
+    for i in 0..N {
+        same &= a[at + i] == b[from + i];
     }
+    same
 }
 
 // A place in a slice, and the end of the part that is read.
@@ -88,63 +61,17 @@ pub struct Cursor {
     pub end: usize,
 }
 
-// A number with the cursor after it, or too few bytes for one.
-#[derive(Clone, Copy)]
-pub enum Word {
-    Got(u64, Cursor),
-    Cut,
-}
-
 impl Cursor {
-    // One byte, with the cursor after it; cut where fewer are left.
-    pub fn read_u8(self, s: &[u8]) -> Word
-        requires { Within self s.now }
-        ensures { (word_of result ≡ word_at 1 s.now self) × GoodWord s.now self 1 result }
+    // A number of N bytes, with the cursor after it; cut where fewer are left.
+    pub fn read<const N: usize>(self, s: &[u8]) -> Result<(u64, Cursor), Refusal>
+        requires { (N ≤ 8) × Within self s.now }
+        ensures { (word_of result ≡ word_at N s.now self) × GoodWord s.now self N result }
     {
         let at = self.at;
         let end = self.end;
-        if end - at < 1 {
-            return Word::Cut;
+        if end - at < N {
+            return Err(Refusal::Cut);
         }
-        Word::Got(wide(s[at]), Cursor { at: at + 1, end })
-    }
-
-    // A number of two bytes, with the cursor after it; cut where fewer are left.
-    pub fn read_u16(self, s: &[u8]) -> Word
-        requires { Within self s.now }
-        ensures { (word_of result ≡ word_at 2 s.now self) × GoodWord s.now self 2 result }
-    {
-        let at = self.at;
-        let end = self.end;
-        if end - at < 2 {
-            return Word::Cut;
-        }
-        Word::Got(le2(s, at), Cursor { at: at + 2, end })
-    }
-
-    // A number of four bytes, with the cursor after it; cut where fewer are left.
-    pub fn read_u32(self, s: &[u8]) -> Word
-        requires { Within self s.now }
-        ensures { (word_of result ≡ word_at 4 s.now self) × GoodWord s.now self 4 result }
-    {
-        let at = self.at;
-        let end = self.end;
-        if end - at < 4 {
-            return Word::Cut;
-        }
-        Word::Got(le4(s, at), Cursor { at: at + 4, end })
-    }
-
-    // A number of eight bytes, with the cursor after it; cut where fewer are left.
-    pub fn read_u64(self, s: &[u8]) -> Word
-        requires { Within self s.now }
-        ensures { (word_of result ≡ word_at 8 s.now self) × GoodWord s.now self 8 result }
-    {
-        let at = self.at;
-        let end = self.end;
-        if end - at < 8 {
-            return Word::Cut;
-        }
-        Word::Got(le8(s, at), Cursor { at: at + 8, end })
+        Ok((le::<N>(s, at), Cursor { at: at + N, end }))
     }
 }

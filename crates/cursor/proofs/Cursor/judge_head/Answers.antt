@@ -15,15 +15,15 @@ returns-then-end-at c = λ d inside kind units.
     let p = c.requires in
     head_cut d (omega (arith, p)) kind units c.if-kind-eq-COMPRESS.false c.if-kind.false (rw p.0 at c.if-end-at.true)
 
-pub returns-then-is_known : goal.returns-then-is_known
-returns-then-is_known c = λ d inside kind units.
+pub returns : goal.returns
+returns c = λ d inside kind units.
     let p = c.requires in
     rw p.0
     (head_named d (omega (arith, p)) kind units c.if-kind-eq-COMPRESS.false c.if-kind.false (rw p.0 at c.if-end-at.false) inside
-    (sym c.is_known.ensures ∙ c.if-is_known.true) c.kept.ensures)
+    (sym c.is_known.ensures ∙ c.if-not-is_known.false) c.kept.ensures)
 
-pub returns-else-is_known : goal.returns-else-is_known
-returns-else-is_known c = λ d inside kind units.
+pub returns-then-not-is_known : goal.returns-then-not-is_known
+returns-then-not-is_known c = λ d inside kind units.
     let p = c.requires in
     head_unknown d (omega (arith, p)) kind units c.if-kind-eq-COMPRESS.false c.if-kind.false (rw p.0 at c.if-end-at.false)
-    (sym c.is_known.ensures ∙ c.if-is_known.false)
+    (sym c.is_known.ensures ∙ c.if-not-is_known.true)
