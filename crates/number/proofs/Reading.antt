@@ -1,21 +1,20 @@
 -- Reading a pattern: which are a NaN's, and what clearing the sign's bit does. Assumes nothing.
 use mathlib.Core.Path.{◌≡◌, refl, sym, ap, ◌∙◌, subst}
-use mathlib.Core.Bool.{Bool, true, false, not, cond, false≢true, true≢false}
+use mathlib.Core.Bool.{Bool, true, false, not, cond, false≢true}
 use Prim.Native.Nat.{ℕ, zero, suc, ◌+◌, ◌-◌, ◌/◌, ◌%◌, ◌^◌, ◌≤◌, ◌<◌, ◌*◌}
 use native.Mathlib.Nat.{mod-lt, mod-eq_of_lt, mod-mod_of_dvd, dvd-mul_right, mul-pos, zero-lt-suc, ne_of_lt}
 use native.Mathlib.Omega.{arith}
 use borrow.Author.Tests.{le-ltb, lt-ltb, lt-leb, eq-eqb, ne_eqb}
 use lib.Dec.{T, leb, eqb}
 use lib.Pow.{pow_pos}
-use lib.Ieee.{Float, nan, inf, fin, Format, prec, emax, low, odd, is_nan, hid, ones, top, of_fields, of_bits, nan_bits, eq, ne}
+use lib.Ieee.{Float, nan, inf, fin, Format, prec, emax, low, odd, is_nan, hid, ones, top, of_fields, of_bits, nan_bits}
 use lib.Ieee.Bits.{nan_bits_is, nan_bits_above}
 use lib.Ieee.Exact.{HasValue, odd_sign}
-use lib.Ieee.Compare.{differs_from_itself}
 use Rattle.format.specs.Numbers.{magnitude}
 
 -- ---- which values and which patterns are a NaN's
 
-nan_is : (x : Float) → is_nan x ≡ true → x ≡ nan
+pub nan_is : (x : Float) → is_nan x ≡ true → x ≡ nan
 unfolding is_nan
 nan_is nan h = refl
 nan_is (inf s) h = absurd (false≢true h)
@@ -23,16 +22,6 @@ nan_is (fin s m e) h = absurd (false≢true h)
 
 no : {b : Bool} → b ≡ false → T (not b)
 no h = subst (λ (a : Bool). T (not a)) (sym h) tt
-
--- a NaN, and nothing else, differs from itself
-pub differs : (x : Float) → ne x x ≡ true → x ≡ nan
-differs x h = differs_from_itself x (subst T (sym h) tt)
-
-pub no_nan : (x : Float) → ne x x ≡ false → T (not (is_nan x))
-unfolding is_nan ne eq
-no_nan nan h = absurd (true≢false h)
-no_nan (inf s) h = tt
-no_nan (fin s m e) h = tt
 
 -- with the sign's bit off, the patterns above the infinity's are the NaNs'
 pub nan_above : (f : Format) (b : ℕ) → ones f * hid f < b % top f → of_bits f b ≡ nan

@@ -3,7 +3,7 @@ use mathlib.Core.Path.{◌≡◌, refl, sym, ap, ◌∙◌, subst}
 use mathlib.Core.Logic.{inr}
 use mathlib.Core.Bool.{Bool, true, false, cond}
 use Prim.Native.Nat.{ℕ, suc, ◌+◌, ◌-◌, ◌*◌, ◌/◌, ◌%◌, ◌^◌, ◌≤◌, ◌<◌, compare}
-use native.Mathlib.Nat.{le_trans, le_of_eq, le_of_lt, lt_of_lt_of_le, lt_of_le_of_lt, mul-one, one-mul, mul_assoc, mul-pos, mul-le-mul_right}
+use native.Mathlib.Nat.{le_trans, le_of_eq, le_of_lt, lt_of_lt_of_le, lt_of_le_of_lt, mul-one, one-mul, mul_assoc, mul_comm, mul-pos, mul-le-mul_right}
 use native.Mathlib.Nat.{le-div_iff_mul-le, div-lt_iff_lt-mul, div-one, mod-one}
 use native.Mathlib.Omega.{arith}
 use lib.Dec.{lit<}
@@ -11,7 +11,7 @@ use lib.Pow.{pow-add, pow_pos, pow-lt, shl_lt, shl_exact}
 use lib.Ieee.{binary64, size, nearest, units, round, of_bits}
 use lib.Ieee.Fits.{round_is, nearest-le}
 use lib.Ieee.Nearest.{closest, closest_same, nearest-ge}
-use Rattle.number.specs.Patterns.{Highest, Nearest}
+use Rattle.number.specs.Patterns.{Nearest}
 use Rattle.number.proofs.Rounding.{size_is, rounded_bits}
 
 whole : (a : ℕ) → closest a 1 ≡ a
@@ -25,6 +25,15 @@ zero_nearest = record { small = lit< tt; is = go }
     go false = unfold of_bits round in refl
 
 -- n's highest digit is at j
+pub record Highest (n j : ℕ) : Type 0 where
+  pub low : 2 ^ j ≤ n
+  pub high : n < 2 ^ (j + 1)
+  pub small : j < 64
+
+pub highest : (n i j : ℕ) → 2 ^ i ≤ n → n < 2 * 2 ^ i → i < 64 → j ≡ i → Highest n j
+highest n i j l h s e =
+    subst (Highest n) (sym e) (record { low = l; high = lt_of_lt_of_le h (le_of_eq (mul_comm 2 (2 ^ i) ∙ sym (pow-add 2 i 1))); small = s })
+
 module _ (n j : ℕ) (H : Highest n j) where
   abbrev wide : ℕ
   wide = n * 2 ^ 1074

@@ -1,14 +1,8 @@
 -- What a pattern without its sign has to be, for either sign.
-use Rattle.std.specs.Prelude.{◌≡◌, Bool, cond, ℕ, ◌+◌, ◌^◌, ◌≤◌, ◌<◌}
+use Rattle.std.specs.Prelude.{◌≡◌, Bool, cond, ℕ, ◌+◌, ◌<◌}
 use Rattle.std.specs.Float.{binary32, binary64}
 use Rattle.std.specs.Float.Ieee.{round, of_fields, of_bits}
 use Rattle.format.specs.Numbers.{narrow}
-
--- r is the place of n's highest digit
-pub record Highest (n r : ℕ) : Type 0 where
-  pub low : 2 ^ r ≤ n
-  pub high : n < 2 ^ (r + 1)
-  pub small : r < 64
 
 -- r is the f64 nearest to n
 pub record Nearest (n r : ℕ) : Type 0 where

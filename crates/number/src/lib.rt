@@ -12,7 +12,7 @@ ghost use Rattle.format.specs.Numbers as Numbers;
 ghost use Rattle.format.specs.Calibration as Calibration;
 ghost use Rattle.number.specs.Readings.{natural, integer, real};
 ghost use Rattle.number.specs.Exact.{Exact, Steps};
-ghost use Rattle.number.specs.Patterns.{Highest, Nearest, Narrowed};
+ghost use Rattle.number.specs.Patterns.{Nearest, Narrowed};
 
 // An f64's pattern: its sign, the leading digit that is not written, and the infinity, above which the NaNs are.
 const SIGN: u64 = 0x8000_0000_0000_0000;
@@ -26,14 +26,14 @@ const SIGN_32: u32 = 0x8000_0000;
 
 const INFINITE_32: u32 = 0x7f80_0000;
 
-// ---- patterns
+// ---- patterns: an f32's functions are written beside an f64's, since a trait over both would be longer than the four bodies
 
 // The f64 of a pattern.
 pub fn double_of(bits: u64) -> f64
     ensures { result ≡ Ieee.of_bits binary64 bits }
 {
     if bits % SIGN > INFINITE {
-        0.0 / 0.0
+        f64::NAN
     } else {
         f64::from_bits(bits)
     }
@@ -44,20 +44,20 @@ pub fn single_of(bits: u32) -> f32
     ensures { result ≡ Ieee.of_bits binary32 bits }
 {
     if bits % SIGN_32 > INFINITE_32 {
-        0.0 / 0.0
+        f32::NAN
     } else {
         f32::from_bits(bits)
     }
 }
 
-// The pattern of x: the NaN's is the one without a sign that has only the highest of the digits.
+// The pattern of x; for the NaN, the one with no sign and the highest digit alone.
 pub fn double_bits(x: f64) -> u64
     ensures { (Ieee.of_bits binary64 result ≡ x) × (result ≡ Ieee.to_bits binary64 x) }
 {
-    if x != x {
+    if x.is_nan() {
         0x7ff8_0000_0000_0000
     } else {
-        f64::to_bits(x)
+        x.to_bits()
     }
 }
 
@@ -65,10 +65,10 @@ pub fn double_bits(x: f64) -> u64
 pub fn single_bits(x: f32) -> u32
     ensures { (result ≡ Ieee.to_bits binary32 x) × (Ieee.of_bits binary32 result ≡ x) }
 {
-    if x != x { 0x7fc0_0000 } else { f32::to_bits(x) }
+    if x.is_nan() { 0x7fc0_0000 } else { x.to_bits() }
 }
 
-// x without its sign.
+// x without its sign, which is taken off as a bit (docs/DECISIONS.md), where f64::abs compares.
 pub fn magnitude(x: f64) -> f64
     ensures { result ≡ Numbers.magnitude x }
 {
@@ -127,31 +127,20 @@ pub fn signed(x: f64) -> Option<i64>
     ensures { integer result ≡ Numbers.signed (double x) }
 {
     let bits = double_bits(x);
-    match whole_number(bits % SIGN) {
-        None => None,
-        Some(n) => {
-            if bits < SIGN {
-                signed_whole(n)
-            } else {
-                negated(n)
-            }
-        }
+    let n = whole_number(bits % SIGN)?;
+    if bits < SIGN {
+        signed_whole(n)
+    } else {
+        negated(n)
     }
 }
 
 // The signed reading of a whole number: absent from 2^63 on.
+#[tactic(auto, unfolding(format::specs::Numbers::signed, format::specs::Values::bind))]
 pub fn signed_whole(n: u64) -> Option<i64>
     ensures { integer result ≡ Numbers.signed (whole (pos n)) }
 {
-    if n < SIGN { Some(n as i64) } else { None }
-}
-
-// The number -1 - n.
-fn below(n: u64) -> i64
-    requires { n < 2 ^ 63 }
-    ensures { result ≡ negsuc n }
-{
-    -1 - n as i64
+    i64::try_from(n).ok()
 }
 
 // The signed reading of -1 - n: absent below -2^63.
@@ -159,7 +148,7 @@ fn below(n: u64) -> i64
 pub fn signed_below(n: u64) -> Option<i64>
     ensures { integer result ≡ Numbers.signed (whole (negsuc n)) }
 {
-    if n < SIGN { Some(below(n)) } else { None }
+    Some(-1 - i64::try_from(n).ok()?)
 }
 
 // The signed reading of -n.
@@ -169,7 +158,7 @@ fn negated(n: u64) -> Option<i64>
     if n == 0 { Some(0) } else { signed_below(n - 1) }
 }
 
-// ---- roundings
+// ---- roundings, worked out from bits and not by std::num, so that no setting of the processor counts (docs/TRUST.md)
 
 // q / 2^n to the nearest whole number, a tie to the even one.
 pub fn rounded(q: u64, n: u64) -> u64
@@ -189,14 +178,6 @@ pub fn rounded(q: u64, n: u64) -> u64
     }
 }
 
-// The place of the highest digit of n.
-fn highest(n: u64) -> u64
-    requires { 0 < n }
-    ensures { Highest n result }
-{
-    63 - (u64::leading_zeros(n) as u64)
-}
-
 // The f64 nearest to n, as a pattern.
 fn nearest(n: u64) -> u64
     ensures { Nearest n result }
@@ -204,7 +185,7 @@ fn nearest(n: u64) -> u64
     if n == 0 {
         return 0;
     }
-    let place = highest(n);
+    let place = u64::from(n.ilog2());
     if place < 53 {
         (1022 + place) * LEADING + (n << (52 - place))
     } else {
@@ -223,7 +204,7 @@ pub fn of_whole(n: u64) -> f64
 pub fn of_below(n: u64) -> f64
     ensures { result ≡ Ieee.of_int binary64 (negsuc n) }
 {
-    if n == 0xffff_ffff_ffff_ffff {
+    if n == u64::MAX {
         -18446744073709551616.0
     } else {
         double_of(SIGN + nearest(n + 1))
@@ -303,7 +284,7 @@ pub fn span_step(count: u64, high: f64, low: f64) -> Option<f64>
 fn usable(x: f32) -> bool
     ensures { result ≡ (Numbers.positive x && Numbers.finite x) }
 {
-    x > 0.0 && x < single_of(INFINITE_32)
+    x > 0.0 && x < f32::INFINITY
 }
 
 // The class of a z step: 0 not usable, 1 used, 2 smaller than 1e-6, 3 larger than 1e3.

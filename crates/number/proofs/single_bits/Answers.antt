@@ -1,21 +1,18 @@
--- `single_bits` gives the pattern of every value: for the NaN, one of its own.
+-- `single_bits` gives the pattern of every value: for the NaN, one that is written out.
 use mathlib.Core.Path.{refl, sym, subst}
 use lib.Dec.{T}
 use lib.Ieee.{binary32, fits, of_bits, to_bits}
 use lib.Ieee.Bits.{of_bits-to_bits}
-use Rattle.number.proofs.Reading.{differs, no_nan}
+use Rattle.number.proofs.Reading.{nan_is}
 use Rattle.number.proofs.single_bits.Goals as goal
 use Rattle.number.proofs.single_bits.Goals.{Start}
 
 held : (c : Start) → T (fits binary32 c.args.x)
 held c = subst T (sym c.well_formed.0.1) tt
 
-pub float_to_bits-result : goal.float_to_bits-result
-float_to_bits-result c = no_nan c.args.x c.if-x.false
-
-pub returns-then-x : goal.returns-then-x
+pub returns-then-is_nan : goal.returns-then-is_nan
 unfolding of_bits to_bits
-returns-then-x c = let e = differs c.args.x c.if-x.true in (rw e refl, sym e)
+returns-then-is_nan c = let h = nan_is c.args.x (sym c.if-is_nan.ensures.value) in (rw h refl, sym h)
 
-pub returns-else-x : goal.returns-else-x
-returns-else-x c = (refl, of_bits-to_bits binary32 c.args.x (held (goal.at.returns-else-x c).Start))
+pub returns-else-is_nan : goal.returns-else-is_nan
+returns-else-is_nan c = (refl, of_bits-to_bits binary32 c.args.x (held (goal.at.returns-else-is_nan c).Start))
