@@ -9,11 +9,12 @@ use borrow.Author.Tests.{ltb-true, ltb-false}
 use lib.Dec.{ltb}
 use lib.ListN.{length, get_or}
 use Rattle.cursor.specs.Words.{to}
-use Rattle.chunk_cursor.specs.Places.{Opening, start_at}
+use Rattle.chunk_cursor.specs.Places.{start_at}
+use Rattle.chunk_cursor.specs.declared.Start.{Start}
 
 module _ (s : List ℕ) (a : ℕ) where
   -- the two bytes that stand there
-  abbrev bytes : Opening
+  abbrev bytes : Start
   bytes = record { kind = get_or s a 0; units = get_or s (a + 1) 0; name = to (a + 2) (length s) }
 
   pub was_short : start_at s a ≡ none → length s < a + 2
@@ -24,7 +25,7 @@ module _ (s : List ℕ) (a : ℕ) where
       go true q e = ltb-true _ _ q
       go false q e = absurd (let z : ◌≡◌ {A = ℕ} 0 1 = cc in omega arith)
 
-  pub was_begun : {o : Opening} → start_at s a ≡ some o → (a + 2 ≤ length s) × (o ≡ bytes)
+  pub was_begun : {o : Start} → start_at s a ≡ some o → (a + 2 ≤ length s) × (o ≡ bytes)
   unfolding start_at
   was_begun {o} e = go (ltb (length s) (a + 2)) refl e
     where
