@@ -13,6 +13,7 @@ use Rattle.format.specs.Bytes.{le_at, le_bytes, part, ascii, same}
 use Rattle.format.specs.Map.{end_mark}
 use Rattle.format.proofs.Ground.Bytes.{AllBytes, le_bytes_is, part_length, part_at, part_other}
 use Rattle.format.proofs.Ground.Tests.{same_true, true_same, false_same}
+use Rattle.cursor.specs.Words.{SameBytes}
 use Rattle.chunk.specs.Alike.{Alike, Foreign, Tells}
 
 -- a number in bytes that stand elsewhere too
@@ -73,6 +74,18 @@ module _ {s : List ℕ} {at : ℕ} {e : List ℕ} where
         no = λ q w. eqb-false _ _ q (w.equal (i + j) (omega arith) (omega arith));
       })
   tells_more false i j f = differs (f.no refl) (omega arith) (omega arith)
+
+  -- n bytes compared at once
+  pub tells_bytes : {t : Bool} (i n p : ℕ) → p ≡ at + i → (t ≡ true → SameBytes s p e i n) → (t ≡ false → SameBytes s p e i n → ⊥)
+      → Tells t (Alike s at e i (i + n))
+  tells_bytes i n p q f g =
+      record {
+        yes = λ y. record { equal = λ k l m. by k (k - i) (omega arith) (f y (k - i) (omega arith)) };
+        no = λ y a. g y λ k l. rw (q, add_assoc at i k) (a.equal (i + k) (omega arith) (omega arith));
+      }
+    where
+      by : (k j : ℕ) → k ≡ i + j → get_or s (p + j) 0 ≡ get_or e (i + j) 0 → get_or s (at + k) 0 ≡ get_or e k 0
+      by k j z h = rw (q, add_assoc at i j, ← z) at h
 
   -- two parts, one behind the other
   pub tells_both : (t u : Bool) {a n m : ℕ} → Tells t (Alike s at e a n) → Tells u (Alike s at e n m) → a ≤ n → n ≤ m → Tells (t && u) (Alike s at e a m)

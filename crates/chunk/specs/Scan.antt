@@ -1,15 +1,13 @@
 -- What a scan of the map's data passes over, and what it finds.
-use Rattle.std.specs.Prelude.{ℕ, ◌+◌, ◌-◌, ◌^◌, ◌≤◌, ◌<◌, ◌≡◌, cond, List, [], length, get_or, drop, eqb, ltb}
-use Rattle.std.proofs.Math.Option.{Option, none, some}
+use Rattle.std.specs.Prelude.{ℕ, ◌+◌, ◌-◌, ◌^◌, ◌≤◌, ◌<◌, ◌≡◌, cond, List, [], length, get_or, drop, eqb, ltb, Option, Some, None, Result, Ok, Err}
+use Rattle.std.proofs.Math.Option as Math
 use Rattle.std.specs.Int.Count.{count_trailing_zeros}
 use Rattle.format.specs.Bytes.{le_at, part, same}
 use Rattle.format.specs.Answer.{given, refused, and_then}
-use Rattle.format.specs.Refusals as why
+use Rattle.format.specs.Given.{number}
 use Rattle.format.specs.Map.{MapEntry, through_mark, end_mark, map_from, most_entries, prepend}
-use Rattle.chunk.specs.declared.map.Found.{Found}
-use Rattle.chunk.specs.declared.map.Found.TheVariants.{Through, Nothing}
-use Rattle.chunk.specs.declared.map.Next.{Next}
-use Rattle.chunk.specs.declared.map.Next.TheVariants.{Named, End, Broken}
+use Rattle.format.specs.declared.refusal.Refusal.{Refusal}
+use Rattle.format.specs.declared.refusal.Refusal.TheVariants as is
 
 -- no '!' stands from a up to b
 pub record Clear (s : List ℕ) (a b : ℕ) : Type 0 where
@@ -30,27 +28,27 @@ pub record Skipped (s : List ℕ) (a r : ℕ) : Type 0 where
   pub inside : r ≤ length s
   pub clear : Clear s a r
 
-abbrev pub found_of : Found → Option ℕ
-found_of (Through n) = some n
-found_of Nothing = none
-
 -- what is found ends in the list
-abbrev pub FoundIn : List ℕ → ℕ → Found → Type 0
-FoundIn s at (Through n) = at + n ≤ length s
-FoundIn s at Nothing = Unit
+abbrev pub FoundIn : List ℕ → ℕ → Option ℕ → Type 0
+FoundIn s at (Some n) = at + n ≤ length s
+FoundIn s at None = Unit
 
 -- ---- what stands next
 
--- what n bytes through the next '!', if there is one, make of the place `at` after k entries
-unfoldable pub next_by : List ℕ → ℕ → ℕ → Option ℕ → Next
-next_by m at k none = Broken
-next_by m at k (some n) =
-    cond (same (part m at n) end_mark) End
-    (cond (eqb k most_entries) Broken
-    (cond (ltb (length m) (at + n + 16)) Broken
-    (Named n)))
+-- an entry whose name has so many bytes, the end mark, or neither of them in full
+abbrev Next : Type 0
+Next = Result (Option ℕ) Refusal
 
--- what stands at `at`, after k entries: an entry, the end mark, or neither of them in full
+-- what n bytes through the next '!', if there is one, make of the place `at` after k entries
+unfoldable pub next_by : List ℕ → ℕ → ℕ → Math.Option ℕ → Next
+next_by m at k Math.none = Err is.Map
+next_by m at k (Math.some n) =
+    cond (same (part m at n) end_mark) (Ok None)
+    (cond (eqb k most_entries) (Err is.Map)
+    (cond (ltb (length m) (at + n + 16)) (Err is.Map)
+    (Ok (Some n))))
+
+-- what stands at `at`, after k entries
 unfoldable pub next_in : List ℕ → ℕ → ℕ → Next
 unfolding next_by
 next_in m at k = next_by m at k (through_mark (drop at m))
@@ -67,6 +65,6 @@ pub record Entry (m : List ℕ) (at k n : ℕ) : Type 0 where
 
 -- what the map reads at `at`, after k entries, where this stands there
 abbrev pub Stands : List ℕ → ℕ → ℕ → Next → Type 0
-Stands m at k (Named n) = Entry m at k n
-Stands m at k End = map_from (most_entries - k) m at ≡ given []
-Stands m at k Broken = map_from (most_entries - k) m at ≡ refused why.map
+Stands m at k (Ok (Some n)) = Entry m at k n
+Stands m at k (Ok None) = map_from (most_entries - k) m at ≡ given []
+Stands m at k (Err e) = map_from (most_entries - k) m at ≡ refused (number e)

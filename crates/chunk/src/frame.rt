@@ -6,7 +6,8 @@ ghost use Rattle.chunk.specs.Answers.{data_of, DataIn, lookup_of, find_in};
 ghost use Rattle.chunk.specs.Spelling.{Written, Spelled};
 
 use super::map::{Lookup, look_up};
-use crate::{ChunkData, chunk_data};
+use crate::{ChunkFault, chunk_data};
+use format::Range;
 
 // A name at the end of an array: `name[from..]`.
 #[derive(Clone, Copy)]
@@ -57,7 +58,7 @@ pub fn frame_name(n: u64) -> Name
 }
 
 // The data of the chunk at `offset`, which has to bear the name of frame n.
-pub fn frame_chunk(file: &[u8], offset: u64, n: u64) -> ChunkData
+pub fn frame_chunk(file: &[u8], offset: u64, n: u64) -> Result<Range, ChunkFault>
     ensures { ((w : ℕ) → data_of w result ≡ chunk_data w (frame_name n) file.now offset) × DataIn file.now result }
 {
     let f = frame_name(n);

@@ -1,14 +1,15 @@
 // The map's data, scanned in place: it is well formed or refused, and of several entries with one name the last counts.
-ghost use Rattle.std.specs.Prelude.{◌≡◌, ◌+◌, ◌^◌, ◌≤◌, ◌<◌, length, drop};
+ghost use Rattle.std.specs.Prelude.{◌≡◌, ℕ, ◌+◌, ◌^◌, ◌≤◌, ◌<◌, length, drop};
 ghost use Rattle.std.specs.Int.Count.{count_trailing_zeros};
 ghost use Rattle.format.specs.Answer.{number_of};
 ghost use Rattle.format.specs.Map.{through_mark, map_entries, most_entries};
-ghost use Rattle.chunk.specs.Answers.{lookup_of, find_in};
-ghost use Rattle.chunk.specs.Scan.{Marked, first_then, Skipped, found_of, FoundIn, next_in, Stands};
+ghost use Rattle.chunk.specs.Answers.{lookup_of, nth, find_in, name_at};
+ghost use Rattle.format.specs.Given.{maybe, said};
+ghost use Rattle.chunk.specs.Scan.{Marked, first_then, Skipped, FoundIn, next_in, Stands};
 
 use super::names::{is_at, is_end};
-use cursor::le8;
-use format::refusal;
+use cursor::le;
+use format::refusal::Refusal;
 
 // A digit that is 1 where '!' stands at `at`.
 fn mark(s: &[u8], at: usize) -> u32
@@ -83,153 +84,82 @@ fn skip_clear(s: &[u8], at: usize) -> usize
     at + then16(a, then16(b, first16(c)))
 }
 
-// A number of bytes, or that there is no '!'.
-#[derive(Clone, Copy)]
-pub enum Found {
-    Through(usize),
-    Nothing,
-}
-
-// How many bytes there are from `at` on through the first '!'.
-pub fn through_mark(s: &[u8], at: usize) -> Found
+// How many bytes there are from `at` on through the first '!', if there is one.
+pub fn through_mark(s: &[u8], at: usize) -> Option<usize>
     requires { at ≤ length s.now }
-    ensures { (found_of result ≡ through_mark (drop at s.now)) × FoundIn s.now at result }
+    ensures { (maybe result ≡ through_mark (drop at s.now)) × FoundIn s.now at result }
 {
     let mut i = skip_clear(s, at);
     while i < s.len() {
         if s[i] == b'!' {
-            return Found::Through(i - at + 1);
+            return Some(i - at + 1);
         }
         i = skip_clear(s, i + 1);
     }
-    Found::Nothing
+    None
 }
 
 // As many entries a map may have; repeats count.
 const MAX_MAP_ENTRIES: u64 = 2_000_000;
 
-// What stands next in the map's data.
-#[derive(Clone, Copy)]
-pub enum Next {
-    // An entry whose name has this many bytes.
-    Named(usize),
-    // The end mark.
-    End,
-    // Refusal 5.
-    Broken,
-}
-
-// What stands at `at`, after so many entries.
-pub fn next_entry(map: &[u8], at: usize, entries: u64) -> Next
+// What stands at `at`, after so many entries: an entry, whose name has so many bytes, or the end mark.
+pub fn next_entry(map: &[u8], at: usize, entries: u64) -> Result<Option<usize>, Refusal>
     requires { (at ≤ length map.now) × (entries ≤ most_entries) }
     ensures { (result ≡ next_in map.now at entries) × Stands map.now at entries result }
 {
-    let Found::Through(n) = through_mark(map, at) else {
-        return Next::Broken;
-    };
+    let n = through_mark(map, at).ok_or(Refusal::Map)?;
     if is_end(map, at, n) {
-        return Next::End;
+        return Ok(None);
     }
     if entries == MAX_MAP_ENTRIES {
-        return Next::Broken;
+        return Err(Refusal::Map);
     }
     if map.len() - at - n < 16 {
-        return Next::Broken;
+        return Err(Refusal::Map);
     }
-    Next::Named(n)
+    Ok(Some(n))
 }
 
-// What the map has under a name.
-#[derive(Clone, Copy)]
-pub enum Lookup {
-    // The last entry's offset.
-    At(u64),
-    Absent,
-    // Refusal 5.
-    Broken,
+// The offset of the last entry with a name, if there is one, or the map's refusal.
+pub type Lookup = Result<Option<u64>, Refusal>;
+
+// One pass over the map's data for N names: its refusal, or what the last entry with each name says.
+pub fn look_all<const N: usize>(map: &[u8], names: &[&[u8]]) -> Result<[Option<u64>; N], Refusal>
+    requires { length names.now ≡ N }
+    ensures { (k : ℕ) → k < N → lookup_of (nth result k) ≡ find_in map.now (name_at names.now k) }
+{
+    let mut at = 0;
+    let mut entries = 0;
+    let mut last = [None; N];
+    while let Some(n) = next_entry(map, at, entries)? {
+        for (i, name) in names.iter().enumerate() {
+            if is_at(map, at, n, name) {
+                last[i] = Some(le::<8>(map, at + n));
+            }
+        }
+        at = at + n + 16;
+        entries += 1;
+    }
+    Ok(last)
 }
 
-// One pass over the map's data: its refusal, or what the last entry with the name says.
+// The same for one name.
 pub fn look_up(map: &[u8], name: &[u8]) -> Lookup
     ensures { lookup_of result ≡ find_in map.now name.now }
 {
-    let mut at = 0;
-    let mut entries: u64 = 0;
-    let mut last = Lookup::Absent;
-    loop {
-        match next_entry(map, at, entries) {
-            Next::Named(n) => {
-                if is_at(map, at, n, name) {
-                    last = Lookup::At(le8(map, at + n));
-                }
-                at = at + n + 16;
-                entries += 1;
-            }
-            Next::End => return last,
-            Next::Broken => return Lookup::Broken,
-        }
-    }
+    let [last] = look_all::<1>(map, &[name])?;
+    Ok(last)
 }
 
-// What the map has under three names.
-#[derive(Clone, Copy)]
-pub struct Three {
-    pub a: Lookup,
-    pub b: Lookup,
-    pub c: Lookup,
-}
-
-// One pass over the map's data for three names.
-pub fn look_three(map: &[u8], a: &[u8], b: &[u8], c: &[u8]) -> Three
-    ensures { (lookup_of result.a ≡ find_in map.now a.now) × (lookup_of result.b ≡ find_in map.now b.now)
-        × (lookup_of result.c ≡ find_in map.now c.now) }
+// Whether the map's data is well formed.
+pub fn map_check(map: &[u8]) -> Result<(), Refusal>
+    ensures { said result ≡ number_of (map_entries map.now) }
 {
     let mut at = 0;
-    let mut entries: u64 = 0;
-    let mut x = Lookup::Absent;
-    let mut y = Lookup::Absent;
-    let mut z = Lookup::Absent;
-    loop {
-        match next_entry(map, at, entries) {
-            Next::Named(n) => {
-                if is_at(map, at, n, a) {
-                    x = Lookup::At(le8(map, at + n));
-                }
-                if is_at(map, at, n, b) {
-                    y = Lookup::At(le8(map, at + n));
-                }
-                if is_at(map, at, n, c) {
-                    z = Lookup::At(le8(map, at + n));
-                }
-                at = at + n + 16;
-                entries += 1;
-            }
-            Next::End => return Three { a: x, b: y, c: z },
-            Next::Broken => {
-                return Three {
-                    a: Lookup::Broken,
-                    b: Lookup::Broken,
-                    c: Lookup::Broken,
-                };
-            }
-        }
+    let mut entries = 0;
+    while let Some(n) = next_entry(map, at, entries)? {
+        at = at + n + 16;
+        entries += 1;
     }
-}
-
-// The number that the map's data gives: 0, or 5.
-pub fn map_check(map: &[u8]) -> u32
-    ensures { result ≡ number_of (map_entries map.now) }
-{
-    let mut at = 0;
-    let mut entries: u64 = 0;
-    loop {
-        match next_entry(map, at, entries) {
-            Next::Named(n) => {
-                at = at + n + 16;
-                entries += 1;
-            }
-            Next::End => return 0,
-            Next::Broken => return refusal::MAP,
-        }
-    }
+    Ok(())
 }

@@ -4,22 +4,7 @@ ghost use Rattle.format.specs.Bytes.{part, same, begins};
 ghost use Rattle.format.specs.Map.{end_mark};
 ghost use Rattle.chunk.specs.Alike.{Alike, Foreign, Tells};
 
-use cursor::le8;
-
-// Whether the 16 bytes of e from i on stand in s as far from `at`.
-fn same16(s: &[u8], at: usize, e: &[u8], i: usize) -> bool
-    requires { (at + i + 16 ≤ length s.now) × (i + 16 ≤ length e.now) }
-    ensures { Tells result (Alike s.now at e.now i (i + 16)) }
-{
-    let from = at + i;
-    let mut same = true;
-    let mut j = 0;
-    while j < 16 {
-        same = same & (s[from + j] == e[i + j]);
-        j += 1;
-    }
-    same
-}
+use cursor::{le, same_bytes};
 
 // Whether the first n bytes of e stand in s from `at` on.
 fn same_head(s: &[u8], at: usize, e: &[u8], n: usize) -> bool
@@ -44,12 +29,12 @@ pub fn same_at(s: &[u8], at: usize, e: &[u8]) -> bool
     let mut i = e.len();
     while 16 <= i {
         i -= 16;
-        if !same16(s, at, e, i) {
+        if !same_bytes::<16>(s, at + i, e, i) {
             return false;
         }
     }
     if 16 <= e.len() {
-        return same16(s, at, e, 0);
+        return same_bytes::<16>(s, at, e, 0);
     }
     same_head(s, at, e, i)
 }
@@ -77,7 +62,7 @@ fn may_be_at(s: &[u8], at: usize, e: &[u8]) -> bool
         return true;
     }
     let i = e.len() - 8;
-    le8(s, at + i) == le8(e, i)
+    le::<8>(s, at + i) == le::<8>(e, i)
 }
 
 // Whether the n bytes of s from `at` on are those of e, compared as a whole.
@@ -107,10 +92,10 @@ fn end_at(s: &[u8], at: usize) -> bool
     requires { at + 32 ≤ length s.now }
     ensures { result ≡ same (part s.now at 32) end_mark }
 {
-    let a = le8(s, at) == 0x4E55_4843_2032_444E; // ND2 CHUN
-    let b = le8(s, at + 8) == 0x4953_2050_414D_204B; // K MAP SI
-    let c = le8(s, at + 16) == 0x2045_5255_5441_4E47; // GNATURE, a space
-    let d = le8(s, at + 24) == 0x2131_3030_3030_3030; // 0000001!
+    let a = le::<8>(s, at) == 0x4E55_4843_2032_444E; // ND2 CHUN
+    let b = le::<8>(s, at + 8) == 0x4953_2050_414D_204B; // K MAP SI
+    let c = le::<8>(s, at + 16) == 0x2045_5255_5441_4E47; // GNATURE, a space
+    let d = le::<8>(s, at + 24) == 0x2131_3030_3030_3030; // 0000001!
     a & b & c & d
 }
 

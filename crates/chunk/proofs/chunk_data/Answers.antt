@@ -10,27 +10,27 @@ returns-then-n-lt16 c = (λ w. cut_head w _ _ _ (omega arith), tt)
 pub returns-then-n-at : goal.returns-then-n-at
 returns-then-n-at c = (λ w. cut_head w _ _ _ (omega arith), tt)
 
-pub returns-then-le4-ne-ND2_CHUNK_MAGIC : goal.returns-then-le4-ne-ND2_CHUNK_MAGIC
-returns-then-le4-ne-ND2_CHUNK_MAGIC c = (λ w. wrong_mark w _ _ _ (omega arith) (λ e. c.if-le4-ne-ND2_CHUNK_MAGIC.true (c.le4.ensures.0 ∙ e)), tt)
+pub returns-then-le-ne-ND2_CHUNK_MAGIC : goal.returns-then-le-ne-ND2_CHUNK_MAGIC
+returns-then-le-ne-ND2_CHUNK_MAGIC c = (λ w. wrong_mark w _ _ _ (omega arith) (λ e. c.if-le-ne-ND2_CHUNK_MAGIC.true (c.le.ensures.0 ∙ e)), tt)
 
 pub returns-then-n-body : goal.returns-then-n-body
 returns-then-n-body c =
-    (λ w. cut_name w _ _ _ (omega arith) (sym c.le4.ensures.0 ∙ c.if-le4-ne-ND2_CHUNK_MAGIC.false) c.le4-name_len.ensures.0 (omega arith), tt)
+    (λ w. cut_name w _ _ _ (omega arith) (sym c.le.ensures.0 ∙ c.if-le-ne-ND2_CHUNK_MAGIC.false) c.le-name_len.ensures.0 (omega arith), tt)
 
 pub returns-then-not-begins_at : goal.returns-then-not-begins_at
 returns-then-not-begins_at c =
-    let mark = sym c.le4.ensures.0 ∙ c.if-le4-ne-ND2_CHUNK_MAGIC.false in
+    let mark = sym c.le.ensures.0 ∙ c.if-le-ne-ND2_CHUNK_MAGIC.false in
     let name = sym c.begins_at.ensures ∙ c.if-not-begins_at.true in
-    (λ w. wrong_name w _ _ _ (omega arith) mark c.le4-name_len.ensures.0 (omega arith) name, tt)
+    (λ w. wrong_name w _ _ _ (omega arith) mark c.le-name_len.ensures.0 (omega arith) name, tt)
 
 pub returns-then-n-start : goal.returns-then-n-start
 returns-then-n-start c =
-    let mark = sym c.le4.ensures.0 ∙ c.if-le4-ne-ND2_CHUNK_MAGIC.false in
+    let mark = sym c.le.ensures.0 ∙ c.if-le-ne-ND2_CHUNK_MAGIC.false in
     let name = sym c.begins_at.ensures ∙ c.if-not-begins_at.false in
-    (λ w. cut_data w _ _ _ (omega arith) mark c.le4-name_len.ensures.0 (omega arith) name c.le8-len.ensures (omega arith), tt)
+    (λ w. cut_data w _ _ _ (omega arith) mark c.le-name_len.ensures.0 (omega arith) name c.le-len.ensures.0 (omega arith), tt)
 
 pub returns : goal.returns
 returns c =
-    let mark = sym c.le4.ensures.0 ∙ c.if-le4-ne-ND2_CHUNK_MAGIC.false in
+    let mark = sym c.le.ensures.0 ∙ c.if-le-ne-ND2_CHUNK_MAGIC.false in
     let name = sym c.begins_at.ensures ∙ c.if-not-begins_at.false in
-    (λ w. whole_chunk w _ _ _ (omega arith) mark c.le4-name_len.ensures.0 (omega arith) name c.le8-len.ensures (omega arith), omega arith)
+    (λ w. whole_chunk w _ _ _ (omega arith) mark c.le-name_len.ensures.0 (omega arith) name c.le-len.ensures.0 (omega arith), omega arith)

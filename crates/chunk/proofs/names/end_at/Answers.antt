@@ -7,4 +7,4 @@ use Rattle.chunk.proofs.names.end_at.Goals as goal
 
 pub returns : goal.returns
 unfolding end_mark ascii le_at
-returns c = told_mark _ _ (λ j. (c.type_inv.s j).fits) (search rules) c.le8-a.ensures c.le8-b.ensures c.le8-c.ensures c.le8-d.ensures
+returns c = told_mark _ _ (λ j. (c.type_inv.s j).fits) (search rules) c.le-a.ensures.0 c.le-b.ensures.0 c.le-c.ensures.0 c.le-d.ensures.0

@@ -13,4 +13,4 @@ pub returns-then-e-lt8 : goal.returns-then-e-lt8
 returns-then-e-lt8 c = λ q. absurd (true≢false q)
 
 pub returns : goal.returns
-returns c = λ q. foreign_number 8 _ (omega arith) λ z. eqb-false _ _ q (c.le8.ensures ∙ z ∙ sym c.le8-2.ensures)
+returns c = λ q. foreign_number 8 _ (omega arith) λ z. eqb-false _ _ q (c.le.ensures.0 ∙ z ∙ sym c.le-2.ensures.0)
