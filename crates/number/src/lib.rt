@@ -15,9 +15,9 @@ ghost use Rattle.number.specs.Exact.{Exact, Steps};
 ghost use Rattle.number.specs.Patterns.{Nearest, Narrowed};
 
 // An f64's pattern: its sign, the leading digit that is not written, and the infinity, above which the NaNs are.
-const SIGN: u64 = 0x8000_0000_0000_0000;
+pub const SIGN: u64 = 0x8000_0000_0000_0000;
 
-const LEADING: u64 = 0x10_0000_0000_0000;
+pub const LEADING: u64 = 0x10_0000_0000_0000;
 
 const INFINITE: u64 = 0x7ff0_0000_0000_0000;
 

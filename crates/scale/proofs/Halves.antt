@@ -13,9 +13,12 @@ use lib.IntN.{pos}
 use lib.Pow.{pow-add, pow_pos, shl_exact}
 use lib.Ieee.{nearest}
 use lib.Ieee.Nearest.{closest, closest_same}
+use Rattle.std.specs.Prelude as std
+use Rattle.std.specs.Option.{SomeIff}
 use Rattle.format.specs.Numbers.{in_u64}
 use Rattle.format.proofs.Numbers.Wholes.{below_u64, no_u64}
 use Rattle.format.proofs.Numbers.Closest.{under_half, over_half}
+use Rattle.number.specs.Readings.{natural}
 
 -- ---- less than a half is 0
 
@@ -126,12 +129,11 @@ module _ (high low n : ℕ) (N : n < 63) where
     sum_is : front % 2 ^ 64 + back ≡ closest (halves high low) (2 ^ n)
     sum_is = let f = front_is in let p = low_point in omega arith
 
-    -- with the low half it is
-    pub low_carried : 0xffff_ffff_ffff_ffff - front % 2 ^ 64 < back → none ≡ in_u64 (pos (closest (halves high low) (2 ^ n)))
-    low_carried k = let s = sum_is in sym (no_u64 (closest (halves high low) (2 ^ n)) (omega arith))
-
-    pub low_is : back ≤ 0xffff_ffff_ffff_ffff - front % 2 ^ 64 → some (front % 2 ^ 64 + back) ≡ in_u64 (pos (closest (halves high low) (2 ^ n)))
-    low_is k = sym (below_u64 (front % 2 ^ 64 + back) (omega arith)) ∙ ap (λ (z : ℕ). in_u64 (pos z)) sum_is
+    -- the sum, where it fits
+    pub low_sum : (o : std.Option ℕ) → SomeIff o (front % 2 ^ 64 + back < 2 ^ 64) (front % 2 ^ 64 + back)
+        → natural o ≡ in_u64 (pos (closest (halves high low) (2 ^ n)))
+    low_sum (std.Some x) k = ap some k.1 ∙ sym (below_u64 (front % 2 ^ 64 + back) k.0) ∙ ap (λ (z : ℕ). in_u64 (pos z)) sum_is
+    low_sum std.None k = let s = sum_is in sym (no_u64 (closest (halves high low) (2 ^ n)) (omega arith))
 
 -- ---- the point in the high half, where the lowest word is all behind it
 

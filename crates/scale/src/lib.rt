@@ -8,7 +8,7 @@ ghost use Rattle.format.specs.Picometres as Picometres;
 ghost use Rattle.number.specs.Readings.{natural};
 ghost use Rattle.scale.specs.Halves.{wide};
 
-use number::{Natural, double_bits, rounded};
+use number::{LEADING, SIGN, double_bits, rounded};
 
 // A number of two halves: high * 2^64 + low.
 #[derive(Clone, Copy)]
@@ -22,14 +22,6 @@ const MICROMETRE: u64 = 1_000_000;
 
 // A u64 is two words of 32 bits.
 const WORD: u64 = 0x1_0000_0000;
-
-// The largest u64.
-const MOST: u64 = 0xffff_ffff_ffff_ffff;
-
-// An f64's pattern: its sign, and the leading digit that is not written.
-const SIGN: u64 = 0x8000_0000_0000_0000;
-
-const LEADING: u64 = 0x10_0000_0000_0000;
 
 // ---- two halves
 
@@ -47,21 +39,16 @@ fn product(digits: u64) -> Wide
 }
 
 // The whole number nearest to w / 2^n, a tie to the even one, where the point lies in the low half. Absent: 2^64 and above.
-fn point_in_low(w: Wide, n: u64) -> Natural
+fn point_in_low(w: Wide, n: u64) -> Option<u64>
     requires low { 1 ≤ n }
     requires high { n < 63 }
     ensures { natural result ≡ in_u64 (pos (closest (wide w) (2 ^ n))) }
 {
     if w.high >> n != 0 {
-        return Natural::Absent;
+        return None;
     }
     let front = w.high << (64 - n);
-    let back = rounded(w.low, n);
-    if back > MOST - front {
-        Natural::Absent
-    } else {
-        Natural::Is(front + back)
-    }
+    front.checked_add(rounded(w.low, n))
 }
 
 // The same where it lies in the high half: of the lowest word it counts only whether it is 0.
@@ -82,24 +69,24 @@ fn point_in_high(w: Wide, n: u64) -> u64
 // ---- a double
 
 // digits / 2^n micrometres. From 74 on they are less than half a picometre.
-fn scaled(digits: u64, n: u64) -> Natural
+fn scaled(digits: u64, n: u64) -> Option<u64>
     requires small { digits < 2 ^ 53 }
     requires low { 1 ≤ n }
     ensures { natural result ≡ in_u64 (pos (closest (digits * 1_000_000) (2 ^ n))) }
 {
     if n > 73 {
-        return Natural::Is(0);
+        return Some(0);
     }
     let w = product(digits);
     if n < 63 {
         point_in_low(w, n)
     } else {
-        Natural::Is(point_in_high(w, n))
+        Some(point_in_high(w, n))
     }
 }
 
 // The picometres that x micrometres are, without its sign. Absent: 2^64 and above, an infinity, a NaN.
-pub fn picometres(x: f64) -> Natural
+pub fn picometres(x: f64) -> Option<u64>
     ensures { natural result ≡ Picometres.picometres x }
 {
     let bits = double_bits(x) % SIGN;
@@ -110,6 +97,6 @@ pub fn picometres(x: f64) -> Natural
     } else if exponent < 1075 {
         scaled(LEADING + digits, 1075 - exponent)
     } else {
-        Natural::Absent
+        None
     }
 }

@@ -1,7 +1,7 @@
 -- `scaled`: less than half a picometre, or the product rounded where its point lies.
 use mathlib.Core.Path.{◌≡◌, sym, ap, ◌∙◌}
 use mathlib.Core.Option.{some}
-use Prim.Native.Nat.{ℕ, ◌+◌, ◌*◌, ◌^◌, ◌<◌}
+use Prim.Native.Nat.{ℕ, ◌*◌, ◌^◌, ◌<◌}
 use native.Mathlib.Nat.{lt_of_lt_of_le}
 use native.Mathlib.Omega.{arith}
 use lib.IntN.{pos}
@@ -10,7 +10,6 @@ use lib.Ieee.Nearest.{closest}
 use Rattle.format.specs.Numbers.{in_u64}
 use Rattle.format.proofs.Numbers.Wholes.{below_u64}
 use Rattle.scale.proofs.Halves.{nothing_left}
-use borrow.Author.Rules.{rules}
 use Rattle.scale.proofs.scaled.Goals as goal
 
 -- less than half a picometre
@@ -20,23 +19,8 @@ tiny q n h k =
     let m : q * 1_000_000 * 2 < 2 ^ n = lt_of_lt_of_le l (pow_mono {i = 74} {j = n} k) in
     sym (below_u64 0 (omega arith)) ∙ ap (λ (z : ℕ). in_u64 (pos z)) (sym (nothing_left (q * 1_000_000) (2 ^ n) m))
 
--- the product's high half is short
-short : (q high low : ℕ) → q < 2 ^ 53 → high * 2 ^ 64 + low ≡ q * 1_000_000 → high < 2 ^ 30
-short q high low h e = omega arith
-
 pub returns-then-n-gt73 : goal.returns-then-n-gt73
 returns-then-n-gt73 c = tiny c.args.digits c.args.n c.requires.small c.if-n-gt73.true
-
-pub point_in_high-requires : goal.point_in_high-requires
-point_in_high-requires c = record {
-  small = short c.args.digits c.product-w.result.high c.product-w.result.low c.requires.small c.product-w.ensures;
-  low = search rules;
-  high = search rules;
-}
-
-pub returns-then-n-lt63 : goal.returns-then-n-lt63
-returns-then-n-lt63 c =
-    c.point_in_low.ensures ∙ ap (λ (z : ℕ). in_u64 (pos (closest z (2 ^ c.args.n)))) c.product-w.ensures
 
 pub returns-else-n-lt63 : goal.returns-else-n-lt63
 returns-else-n-lt63 c =
