@@ -19,8 +19,7 @@ use Rattle.format.specs.Values.{value_from, value_if, leaf}
 use Rattle.format.specs.declared.Entry.{Entry}
 use Rattle.lookup.specs.Table.{firsts, Ordered, Run, found}
 use Rattle.lookup.specs.Values.{only_unnamed, unnamed_in, elements_from, elements_of, Element, unnamed_child, kids, head_of, list_at}
-use Rattle.lookup.specs.declared.Found.{Found}
-use Rattle.lookup.specs.declared.Found.TheVariants.{At, Nothing}
+use Rattle.std.specs.Prelude as std
 use Rattle.lookup.proofs.Rows.{slots_more, slots_start, get_elem_firsts, child_after, hop}
 use Rattle.lookup.proofs.Between.{nil_not, Picked, between_here, between_skip, between_end, between_none, between_hop, between_last}
 use Rattle.lookup.proofs.Between.{between_zero, between_short, between_split}
@@ -269,8 +268,8 @@ module _ (s : List ℕ) (e : ℕ → Entry) (n p : ℕ) where
   first_none zero h = rw elements_flat h
   first_none (suc d) h = rw (elements_deep, none_kids (kids e p 0 n) h)
 
-  pub first_flat : (d j : ℕ) → d ≡ 0 → some j ≡ head_of (kids e p 0 n) → some j ≡ head_of (elements_from d s (firsts n e) p)
-  first_flat d j z h = rw (z, elements_flat) h
+  pub first_flat : (d : ℕ) (o : Option ℕ) → d ≡ 0 → o ≡ head_of (kids e p 0 n) → o ≡ head_of (elements_from d s (firsts n e) p)
+  first_flat d o z h = rw (z, elements_flat) h
 
   pub first_plain : (d j : ℕ) → list_at s e n j ≡ false → some j ≡ head_of (kids e p 0 n) → some j ≡ head_of (elements_from d s (firsts n e) p)
   first_plain zero j b h = rw elements_flat h
@@ -494,17 +493,17 @@ elements_short (suc d) s e n p = rw elements_deep (go (kids e p 0 n) (kids_short
         rw (length-append (f j) js, x) (omega arith)
 
 -- of these elements n are counted, and `at` is the next
-pub record Counted (l : List ℕ) (n : ℕ) (at : Found) : Type 0 where
+pub record Counted (l : List ℕ) (n : ℕ) (at : std.Option ℕ) : Type 0 where
   pub next : found at ≡ get_elem? l n
   pub few : n ≤ length l
 
-pub counted_end : (l : List ℕ) (n : ℕ) (at : Found) → Counted l n at → at ≡ Nothing → n ≡ length l
+pub counted_end : (l : List ℕ) (n : ℕ) (at : std.Option ℕ) → Counted l n at → at ≡ std.None → n ≡ length l
 counted_end l n at h z = let x = get_past l n (is_nothing at _ z h.next) in omega (arith, h.few)
 
-pub counted_less : (l : List ℕ) (n : ℕ) (at : Found) (i : ℕ) → Counted l n at → at ≡ At i → n < length l
+pub counted_less : (l : List ℕ) (n : ℕ) (at : std.Option ℕ) (i : ℕ) → Counted l n at → at ≡ std.Some i → n < length l
 counted_less l n at i h z = get_less l n i (sym (is_at at i _ z h.next))
 
-pub counted_more : (l : List ℕ) (n : ℕ) (at to : Found) (i : ℕ) → Counted l n at → at ≡ At i → (get_elem? l n ≡ some i → found to ≡ get_elem? l (n + 1))
+pub counted_more : (l : List ℕ) (n : ℕ) (at to : std.Option ℕ) (i : ℕ) → Counted l n at → at ≡ std.Some i → (get_elem? l n ≡ some i → found to ≡ get_elem? l (n + 1))
     → Counted l (n + 1) to
 counted_more l n at to i h z k =
     let x = counted_less l n at i h z in

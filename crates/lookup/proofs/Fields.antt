@@ -7,8 +7,7 @@ use Rattle.format.specs.Values.{Value, value_at, slots_of, find, field, map_opti
 use Rattle.format.specs.declared.Entry.{Entry}
 use Rattle.lookup.specs.Values.{meaning, field_meaning, Inside, FieldInside}
 use Rattle.lookup.specs.declared.ClxValue.{ClxValue}
-use Rattle.lookup.specs.declared.Field.{Field}
-use Rattle.lookup.specs.declared.Field.TheVariants.{Is, Absent}
+use Rattle.std.specs.Prelude as std
 
 -- ---- the field of an entry that is found
 
@@ -30,14 +29,14 @@ module _ (s : List ℕ) (es : List Entry) (p : ℕ) (n : List ℕ) where
 
 -- ---- the reading of a field, where a match took it apart
 
-module _ (s : List ℕ) (es : List Entry) {A : Type 0} (f : Value → Option A) (r : Field) (x : Option Value) where
-  pub read_is : (v : ClxValue) (o : Option A) → r ≡ Is v → field_meaning s es r ≡ x → o ≡ f (meaning s es v) → o ≡ bind x f
+module _ (s : List ℕ) (es : List Entry) {A : Type 0} (f : Value → Option A) (r : std.Option ClxValue) (x : Option Value) where
+  pub read_is : (v : ClxValue) (o : Option A) → r ≡ std.Some v → field_meaning s es r ≡ x → o ≡ f (meaning s es v) → o ≡ bind x f
   unfolding field_meaning bind
   read_is v o h k q = q ∙ ap (λ (y : Option Value). bind y f) (sym (ap (field_meaning s es) h) ∙ k)
 
-  pub read_absent : r ≡ Absent → field_meaning s es r ≡ x → none ≡ bind x f
+  pub read_absent : r ≡ std.None → field_meaning s es r ≡ x → none ≡ bind x f
   unfolding field_meaning bind
   read_absent h k = ap (λ (y : Option Value). bind y f) (sym (ap (field_meaning s es) h) ∙ k)
 
-pub inside_is : (n : ℕ) (r : Field) (v : ClxValue) → r ≡ Is v → FieldInside n r → Inside n v
+pub inside_is : (n : ℕ) (r : std.Option ClxValue) (v : ClxValue) → r ≡ std.Some v → FieldInside n r → Inside n v
 inside_is n r v h k = subst (FieldInside n) h k

@@ -63,10 +63,10 @@ module _ (s : List ℕ) (es : List Entry) where
 
   -- ---- a signed one
 
-  pub signed_flag : (v : ClxValue) (b : Bool) (n : ℕ) → v ≡ clx.Flag b → n ≡ one_if b → some (pos n) ≡ signed (meaning s es v)
+  pub signed_flag : (v : ClxValue) (b : Bool) (n : ℤ) → v ≡ clx.Flag b → n ≡ pos (one_if b) → some n ≡ signed (meaning s es v)
   unfolding meaning signed bind
-  signed_flag v true n h k = rw h (ap (λ (m : ℕ). some (pos m)) k)
-  signed_flag v false n h k = rw h (ap (λ (m : ℕ). some (pos m)) k)
+  signed_flag v true n h k = rw h (ap some k)
+  signed_flag v false n h k = rw h (ap some k)
 
   pub signed_whole : (v : ClxValue) (n : ℕ) (o : Option ℤ) → v ≡ clx.Whole n → o ≡ signed (whole (pos n)) → o ≡ signed (meaning s es v)
   unfolding meaning

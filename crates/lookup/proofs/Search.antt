@@ -16,26 +16,23 @@ use Rattle.format.specs.Bytes.{same}
 use Rattle.format.specs.Values.{name_of, slots_of, find}
 use Rattle.format.specs.declared.Entry.{Entry}
 use Rattle.lookup.specs.Table.{firsts, Ordered, Run, found, Within, child_named, last_named, is_none}
-use Rattle.lookup.specs.declared.Found.{Found}
-use Rattle.lookup.specs.declared.Found.TheVariants.{At, Nothing}
+use Rattle.std.specs.Prelude as std
 use Rattle.lookup.proofs.Rows.{slots_start, slots_more, child_after, hop}
 
 -- ---- what an answer tells, where a match took it apart
 
-pub is_at : (r : Found) (i : ℕ) (x : Option ℕ) → r ≡ At i → found r ≡ x → some i ≡ x
-unfolding found
+pub is_at : (r : std.Option ℕ) (i : ℕ) (x : Option ℕ) → r ≡ std.Some i → found r ≡ x → some i ≡ x
 is_at r i x h k = rw h at k
 
-pub is_nothing : (r : Found) (x : Option ℕ) → r ≡ Nothing → found r ≡ x → none ≡ x
-unfolding found
+pub is_nothing : (r : std.Option ℕ) (x : Option ℕ) → r ≡ std.None → found r ≡ x → none ≡ x
 is_nothing r x h k = rw h at k
 
-pub at_within : (n : ℕ) (r : Found) (i : ℕ) → r ≡ At i → Within n r → i < n
+pub at_within : (n : ℕ) (r : std.Option ℕ) (i : ℕ) → r ≡ std.Some i → Within n r → i < n
 at_within n r i h k = subst (Within n) h k
 
-pub within_more : (m n : ℕ) (r : Found) → m ≤ n → Within m r → Within n r
-within_more m n (At i) l h = omega arith
-within_more m n Nothing l h = tt
+pub within_more : (m n : ℕ) (r : std.Option ℕ) → m ≤ n → Within m r → Within n r
+within_more m n (std.Some i) l h = omega arith
+within_more m n std.None l h = tt
 
 -- ---- the search
 

@@ -18,10 +18,8 @@ use Rattle.lookup.specs.Values.{kids, head_of, elements_of, meaning, field_meani
 use Rattle.lookup.specs.Walks.{leads, leads_in, Knows, named_or, slot_for, slot_at, slots_at, place_levels, rest_of, Standing, Walk, left_of, Behind, NextOf}
 use Rattle.lookup.specs.declared.ClxValue.{ClxValue}
 use Rattle.lookup.specs.declared.ClxValue.TheVariants as clx
-use Rattle.lookup.specs.declared.Field.{Field}
-use Rattle.lookup.specs.declared.Field.TheVariants.{Is, Absent}
+use Rattle.std.specs.Prelude as std
 use Rattle.lookup.specs.declared.Known.{Known}
-use Rattle.lookup.specs.declared.Next.{Next}
 use Rattle.lookup.specs.declared.Turn.{Turn}
 use Rattle.lookup.specs.declared.Turn.TheVariants as turn
 use Rattle.lookup.specs.contracts.ClxValue.{the_type}
@@ -140,21 +138,21 @@ items_past s es l k h = ap (levels_of s es) (go l k h)
 
 -- ---- what a field's elements or entries are, where a match took it apart
 
-module _ (s : List ℕ) (es : List Entry) (f : Field) where
-  absent_of : f ≡ Absent → field_meaning s es f ≡ none
+module _ (s : List ℕ) (es : List Entry) (f : std.Option ClxValue) where
+  absent_of : f ≡ std.None → field_meaning s es f ≡ none
   unfolding field_meaning
   absent_of h = rw h refl
 
-  level_of_is : (v : ClxValue) (i : ℕ) → f ≡ Is v → v ≡ clx.Level i → field_meaning s es f ≡ some (level i)
+  level_of_is : (v : ClxValue) (i : ℕ) → f ≡ std.Some v → v ≡ clx.Level i → field_meaning s es f ≡ some (level i)
   unfolding field_meaning meaning
   level_of_is v i h k = rw (h, k) refl
 
-  list_of : (v : ClxValue) (i : ℕ) → f ≡ Is v → v ≡ clx.List i → field_meaning s es f ≡ some (list (elements_of s es (i + 1)))
+  list_of : (v : ClxValue) (i : ℕ) → f ≡ std.Some v → v ≡ clx.List i → field_meaning s es f ≡ some (list (elements_of s es (i + 1)))
   unfolding field_meaning meaning
   list_of v i h k = rw (h, k, add-one) refl
 
   -- any other kind has none
-  other_of : (v : ClxValue) → f ≡ Is v → OneOf (0 ∷ 1 ∷ 2 ∷ 3 ∷ 4 ∷ 5 ∷ []) (tag_of the_type v)
+  other_of : (v : ClxValue) → f ≡ std.Some v → OneOf (0 ∷ 1 ∷ 2 ∷ 3 ∷ 4 ∷ 5 ∷ []) (tag_of the_type v)
       → (child_levels s es (field_meaning s es f) ≡ []) × (size_of s es (field_meaning s es f) ≡ 0)
   unfolding field_meaning meaning child_levels size_of
   other_of v h k = rw h (go v k)
@@ -172,29 +170,29 @@ module _ (s : List ℕ) (es : List Entry) (f : Field) where
 
   -- ---- how many there are
 
-  pub size_absent : f ≡ Absent → 0 ≡ size_of s es (field_meaning s es f)
+  pub size_absent : f ≡ std.None → 0 ≡ size_of s es (field_meaning s es f)
   unfolding size_of
   size_absent h = sym (ap (size_of s es) (absent_of h))
 
-  pub size_level : (v : ClxValue) (i k : ℕ) → f ≡ Is v → v ≡ clx.Level i → k ≡ length (slots_of s es (i + 1)) → k ≡ size_of s es (field_meaning s es f)
+  pub size_level : (v : ClxValue) (i k : ℕ) → f ≡ std.Some v → v ≡ clx.Level i → k ≡ length (slots_of s es (i + 1)) → k ≡ size_of s es (field_meaning s es f)
   unfolding size_of
   size_level v i k h q z = z ∙ rw add-one (sym (ap (size_of s es) (level_of_is v i h q)))
 
-  pub size_list : (v : ClxValue) (i k : ℕ) → f ≡ Is v → v ≡ clx.List i → k ≡ length (elements_of s es (i + 1)) → k ≡ size_of s es (field_meaning s es f)
+  pub size_list : (v : ClxValue) (i k : ℕ) → f ≡ std.Some v → v ≡ clx.List i → k ≡ length (elements_of s es (i + 1)) → k ≡ size_of s es (field_meaning s es f)
   unfolding size_of
   size_list v i k h q z = z ∙ sym (ap (size_of s es) (list_of v i h q))
 
-  pub size_other : (v : ClxValue) → f ≡ Is v → OneOf (0 ∷ 1 ∷ 2 ∷ 3 ∷ 4 ∷ 5 ∷ []) (tag_of the_type v) → 0 ≡ size_of s es (field_meaning s es f)
+  pub size_other : (v : ClxValue) → f ≡ std.Some v → OneOf (0 ∷ 1 ∷ 2 ∷ 3 ∷ 4 ∷ 5 ∷ []) (tag_of the_type v) → 0 ≡ size_of s es (field_meaning s es f)
   size_other v h k = sym (other_of v h k).1
 
 -- ---- a walk's start
 
-module _ (s : List ℕ) (e : ℕ → Entry) (n : ℕ) (f : Field) where
-  pub walk_absent : f ≡ Absent → Walk s e n (child_levels s (firsts n e) (field_meaning s (firsts n e) f)) turn.Over
+module _ (s : List ℕ) (e : ℕ → Entry) (n : ℕ) (f : std.Option ClxValue) where
+  pub walk_absent : f ≡ std.None → Walk s e n (child_levels s (firsts n e) (field_meaning s (firsts n e) f)) turn.Over
   unfolding child_levels
   walk_absent h = record { good = tt; rest = ap (child_levels s (firsts n e)) (absent_of s (firsts n e) f h) }
 
-  pub walk_level : (v : ClxValue) (i r : ℕ) (b : Known) → f ≡ Is v → v ≡ clx.Level i → Ordered e n → Run e n (i + 1) r → Knows s e (i + 1) r b
+  pub walk_level : (v : ClxValue) (i r : ℕ) (b : Known) → f ≡ std.Some v → v ≡ clx.Level i → Ordered e n → Run e n (i + 1) r → Knows s e (i + 1) r b
       → Walk s e n (child_levels s (firsts n e) (field_meaning s (firsts n e) f)) (turn.Places (i + 1) r b (i + 1))
   unfolding child_levels
   walk_level v i r b h k o q a =
@@ -206,7 +204,7 @@ module _ (s : List ℕ) (e : ℕ → Entry) (n : ℕ) (f : Field) where
             ∙ levels_all s e n (i + 1) o (omega (arith, q.below.low, q.below.high));
       }
 
-  pub walk_empty : (v : ClxValue) (i : ℕ) → f ≡ Is v → v ≡ clx.List i → none ≡ head_of (elements_of s (firsts n e) (i + 1))
+  pub walk_empty : (v : ClxValue) (i : ℕ) → f ≡ std.Some v → v ≡ clx.List i → none ≡ head_of (elements_of s (firsts n e) (i + 1))
       → Walk s e n (child_levels s (firsts n e) (field_meaning s (firsts n e) f)) turn.Over
   unfolding child_levels levels_of
   walk_empty v i h k q =
@@ -215,13 +213,13 @@ module _ (s : List ℕ) (e : ℕ → Entry) (n : ℕ) (f : Field) where
         rest = ap (child_levels s (firsts n e)) (list_of s (firsts n e) f v i h k) ∙ items_past s (firsts n e) (elements_of s (firsts n e) (i + 1)) 0 q;
       }
 
-  pub walk_list : (v : ClxValue) (i at : ℕ) → f ≡ Is v → v ≡ clx.List i → at < n → ((s : List ℕ) → some at ≡ head_of (elements_of s (firsts n e) (i + 1)))
+  pub walk_list : (v : ClxValue) (i at : ℕ) → f ≡ std.Some v → v ≡ clx.List i → at < n → ((s : List ℕ) → some at ≡ head_of (elements_of s (firsts n e) (i + 1)))
       → Walk s e n (child_levels s (firsts n e) (field_meaning s (firsts n e) f)) (turn.Elements (i + 1) 0 at)
   unfolding child_levels
   walk_list v i at h k l q =
       record { good = (l, λ s. sym (q s)); rest = ap (child_levels s (firsts n e)) (list_of s (firsts n e) f v i h k) }
 
-  pub walk_other : (v : ClxValue) → f ≡ Is v → OneOf (0 ∷ 1 ∷ 2 ∷ 3 ∷ 4 ∷ 5 ∷ []) (tag_of the_type v)
+  pub walk_other : (v : ClxValue) → f ≡ std.Some v → OneOf (0 ∷ 1 ∷ 2 ∷ 3 ∷ 4 ∷ 5 ∷ []) (tag_of the_type v)
       → Walk s e n (child_levels s (firsts n e) (field_meaning s (firsts n e) f)) turn.Over
   walk_other v h k = record { good = tt; rest = (other_of s (firsts n e) f v h k).0 }
 
@@ -262,5 +260,5 @@ module _ (s : List ℕ) (e : ℕ → Entry) (n : ℕ) (t : Turn) where
         let y = ap (left_of s e n) h in
         omega (arith, b.less, x, y)
 
-pub next_same : (s : List ℕ) (e : ℕ → Entry) (n : ℕ) (l m : List ℕ) (r : Next) → l ≡ m → NextOf s e n m r → NextOf s e n l r
+pub next_same : (s : List ℕ) (e : ℕ → Entry) (n : ℕ) (l m : List ℕ) (r : std.Option (ℕ × Turn)) → l ≡ m → NextOf s e n m r → NextOf s e n l r
 next_same s e n l m r h k = subst (λ (x : List ℕ). NextOf s e n x r) (sym h) k

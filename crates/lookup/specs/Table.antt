@@ -1,12 +1,12 @@
 -- The entries that stand in a table, what a lookup may assume of them, and what a search answers.
 use Rattle.std.specs.Prelude.{ℕ, zero, suc, ◌+◌, ◌-◌, ◌*◌, ◌^◌, ◌≤◌, ◌<◌, ◌≡◌, Bool, true, false, ◌&&◌, cond, List, [], ◌∷◌, length, eqb}
+use Rattle.std.specs.Prelude as std
 use Rattle.std.proofs.Math.Option.{Option, none, some}
 use Rattle.format.specs.Bytes.{same}
+use Rattle.format.specs.Given.{maybe}
 use Rattle.format.specs.Trees.{fixed_len}
 use Rattle.format.specs.Values.{name_of}
 use Rattle.format.specs.declared.Entry.{Entry}
-use Rattle.lookup.specs.declared.Found.{Found}
-use Rattle.lookup.specs.declared.Found.TheVariants.{At, Nothing}
 unfoldable pub use Rattle.format.specs.Table.{entry_in, firsts}
 pub use Rattle.format.specs.Table.{entries_in}
 
@@ -73,9 +73,8 @@ pub record Split (e : ℕ → Entry) (p n to r : ℕ) : Type 0 where
 
 -- ---- what a search answers
 
-unfoldable pub found : Found → Option ℕ
-found (At i) = some i
-found Nothing = none
+abbrev pub found : std.Option ℕ → Option ℕ
+found r = maybe r
 
 -- nothing was found
 abbrev pub is_none : Option ℕ → Bool
@@ -83,9 +82,9 @@ is_none none = true
 is_none (some i) = false
 
 -- an entry that was found is one of n
-abbrev pub Within : ℕ → Found → Type 0
-Within n (At i) = i < n
-Within n Nothing = Unit
+abbrev pub Within : ℕ → std.Option ℕ → Type 0
+Within n (std.Some i) = i < n
+Within n std.None = Unit
 
 -- whether entry i is a child of p with the name
 abbrev pub child_named : List ℕ → (ℕ → Entry) → ℕ → List ℕ → ℕ → Bool

@@ -1,16 +1,14 @@
 -- What the answers of the lookups stand for, in document 01's terms.
 use Rattle.std.specs.Prelude.{ℕ, suc, ◌+◌, ◌<◌, ◌≡◌, Bool, true, false, ◌&&◌, List, [], ◌∷◌, eqb, pos, negsuc}
+use Rattle.std.specs.Prelude as std
 use Rattle.std.proofs.Math.Option.{Option, none, some}
 use Rattle.std.proofs.Math.ListN.{get_elem?}
 use Rattle.format.specs.Trees.{most_depth}
 use Rattle.format.specs.Values.{Value, flag, whole, double, text, bytes, level, list, Slot, named, unnamed, slots_of, elements, value_from}
 use Rattle.format.specs.declared.Entry.{Entry}
 use Rattle.lookup.specs.Table.{firsts, between, found}
-use Rattle.lookup.specs.declared.Found.{Found}
 use Rattle.lookup.specs.declared.ClxValue.{ClxValue}
 use Rattle.lookup.specs.declared.ClxValue.TheVariants as clx
-use Rattle.lookup.specs.declared.Field.{Field}
-use Rattle.lookup.specs.declared.Field.TheVariants.{Is, Absent}
 
 -- ---- lists
 
@@ -43,7 +41,7 @@ pub record Element (es : List Entry) (p i : ℕ) : Type 0 where
   pub is : get_elem? (elements_of file es p) number ≡ some i
 
 -- the next element, if there is one, was found
-abbrev pub Follows : List Entry → ℕ → ℕ → Found → Type 0
+abbrev pub Follows : List Entry → ℕ → ℕ → std.Option ℕ → Type 0
 Follows es p i r = (s : List ℕ) (k : ℕ) → get_elem? (elements_of s es p) k ≡ some i → found r ≡ get_elem? (elements_of s es p) (k + 1)
 
 -- whether entry j of n is a list
@@ -76,14 +74,14 @@ Inside n (clx.Level i) = i < n
 Inside n (clx.List i) = i < n
 
 -- a field's value, or none
-unfoldable pub field_meaning : List ℕ → List Entry → Field → Option Value
+unfoldable pub field_meaning : List ℕ → List Entry → std.Option ClxValue → Option Value
 unfolding meaning
-field_meaning s es (Is v) = some (meaning s es v)
-field_meaning s es Absent = none
+field_meaning s es (std.Some v) = some (meaning s es v)
+field_meaning s es std.None = none
 
-abbrev pub FieldInside : ℕ → Field → Type 0
-FieldInside n (Is v) = Inside n v
-FieldInside n Absent = Unit
+abbrev pub FieldInside : ℕ → std.Option ClxValue → Type 0
+FieldInside n (std.Some v) = Inside n v
+FieldInside n std.None = Unit
 
 -- ---- children without a name, as they stand in the table
 

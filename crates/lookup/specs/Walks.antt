@@ -1,5 +1,6 @@
 -- The places of a level, and what a walk over child levels has still before it.
 use Rattle.std.specs.Prelude.{ℕ, ◌+◌, ◌-◌, ◌/◌, ◌%◌, ◌^◌, ◌≤◌, ◌<◌, ◌≡◌, Bool, true, ◌&&◌, List, [], ◌∷◌, eqb, length, drop}
+use Rattle.std.specs.Prelude as std
 use Rattle.std.proofs.Math.Option.{Option, none, some}
 use Rattle.std.proofs.Math.ListN.{get_elem?}
 use Rattle.format.specs.Values.{Slot, named, unnamed, name_of, slots_of, find}
@@ -11,8 +12,6 @@ use Rattle.lookup.specs.Values.{unnamed_in, elements_of}
 use Rattle.lookup.specs.declared.Known.{Known}
 use Rattle.lookup.specs.declared.Turn.{Turn}
 use Rattle.lookup.specs.declared.Turn.TheVariants as turn
-use Rattle.lookup.specs.declared.Next.{Next}
-use Rattle.lookup.specs.declared.Next.TheVariants as next
 
 -- ---- a level's places: its children that are the first of their name, the first unnamed one too
 
@@ -102,6 +101,6 @@ pub record Behind (s : List ℕ) (e : ℕ → Entry) (n p k : ℕ) (t : Turn) : 
   pub less : left_of s e n t ≤ length (elements_of s (firsts n e) p) - (k + 1)
 
 -- the first of the child levels l, and where the walk stands after it
-abbrev pub NextOf : List ℕ → (ℕ → Entry) → ℕ → List ℕ → Next → Type 0
-NextOf s e n l (next.Child i t) = (i < n) × Standing s e n t × (l ≡ i ∷ rest_of s e n t)
-NextOf s e n l next.End = l ≡ []
+abbrev pub NextOf : List ℕ → (ℕ → Entry) → ℕ → List ℕ → std.Option (ℕ × Turn) → Type 0
+NextOf s e n l (std.Some (i, t)) = (i < n) × Standing s e n t × (l ≡ i ∷ rest_of s e n t)
+NextOf s e n l std.None = l ≡ []

@@ -12,15 +12,15 @@ use crate::list::{count_elements, first_element, next_element};
 use crate::parts::know;
 use crate::place::{count_places, next_place};
 use crate::value::level_at;
-use crate::{ClxValue, Field, Found, Next, Turn};
+use crate::{ClxValue, Turn};
 
 // How many elements or entries a field has.
-pub fn size_of(file: &[u8], table: &[u8], used: usize, f: Field) -> u64
+pub fn size_of(file: &[u8], table: &[u8], used: usize, f: Option<ClxValue>) -> u64
     requires { Holds file.now table.now used × FieldInside used f }
     ensures { result ≡ size_of file.now (entries_in table.now used)
         (field_meaning file.now (entries_in table.now used) f) }
 {
-    let Field::Is(v) = f else {
+    let Some(v) = f else {
         return 0;
     };
     match v {
@@ -31,13 +31,13 @@ pub fn size_of(file: &[u8], table: &[u8], used: usize, f: Field) -> u64
 }
 
 // The start of a walk over the child levels of a field.
-pub fn children(file: &[u8], table: &[u8], used: usize, f: Field) -> Turn
+pub fn children(file: &[u8], table: &[u8], used: usize, f: Option<ClxValue>) -> Turn
     requires { Holds file.now table.now used × FieldInside used f }
     ensures { Walk file.now (entry_in table.now) used
         (child_levels file.now (entries_in table.now used)
         (field_meaning file.now (entries_in table.now used) f)) result }
 {
-    let Field::Is(v) = f else {
+    let Some(v) = f else {
         return Turn::Over;
     };
     match v {
@@ -55,8 +55,8 @@ pub fn children(file: &[u8], table: &[u8], used: usize, f: Field) -> Turn
         ClxValue::List(i) => {
             let parent = i + 1;
             match first_element(table, used, parent) {
-                Found::Nothing => Turn::Over,
-                Found::At(at) => Turn::Elements {
+                None => Turn::Over,
+                Some(at) => Turn::Elements {
                     parent,
                     before: 0,
                     at,
@@ -73,8 +73,8 @@ fn after_element(table: &[u8], used: usize, parent: usize, before: u64, i: usize
     ensures { (s : List ℕ) → Behind s (entry_in table.now) used parent before result }
 {
     match next_element(table, used, parent, i) {
-        Found::Nothing => Turn::Over,
-        Found::At(at) => Turn::Elements {
+        None => Turn::Over,
+        Some(at) => Turn::Elements {
             parent,
             before: before + 1,
             at,
@@ -83,7 +83,7 @@ fn after_element(table: &[u8], used: usize, parent: usize, before: u64, i: usize
 }
 
 // The next child level.
-pub fn next_child(file: &[u8], table: &[u8], used: usize, t: Turn) -> Next
+pub fn next_child(file: &[u8], table: &[u8], used: usize, t: Turn) -> Option<(usize, Turn)>
     requires { Holds file.now table.now used × Standing file.now (entry_in table.now) used t }
     ensures { NextOf file.now (entry_in table.now) used (rest_of file.now (entry_in table.now) used t) result }
 {
@@ -91,7 +91,7 @@ pub fn next_child(file: &[u8], table: &[u8], used: usize, t: Turn) -> Next
     loop {
         match walk {
             Turn::Over => {
-                return Next::End;
+                return None;
             }
             Turn::Places {
                 parent,
@@ -103,14 +103,10 @@ pub fn next_child(file: &[u8], table: &[u8], used: usize, t: Turn) -> Next
             }
             Turn::Elements { parent, before, at } => {
                 let rest = after_element(table, used, parent, before, at);
-                match level_at(table, used, at) {
-                    Found::At(i) => {
-                        return Next::Child(i, rest);
-                    }
-                    Found::Nothing => {
-                        walk = rest;
-                    }
+                if let Some(i) = level_at(table, used, at) {
+                    return Some((i, rest));
                 }
+                walk = rest;
             }
         }
     }

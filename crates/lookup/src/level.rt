@@ -6,14 +6,19 @@ ghost use Rattle.number.specs.Readings.{natural, integer, real};
 ghost use Rattle.lookup.specs.Table.{entries_in, Holds, found, Within};
 ghost use Rattle.lookup.specs.Values.{field_meaning, FieldInside};
 
+use crate::ClxValue;
 use crate::entry::end_of;
 use crate::named::last_named;
 use crate::value::{as_f64, as_i64, as_u64, level_at, value_at};
-use crate::{Field, Found};
-use number::{Integer, Natural, Real};
 
 // The entry of a name: the last child with it.
-pub fn get_entry(file: &[u8], table: &[u8], used: usize, parent: usize, name: &[u8]) -> Found
+pub fn get_entry(
+    file: &[u8],
+    table: &[u8],
+    used: usize,
+    parent: usize,
+    name: &[u8],
+) -> Option<usize>
     requires { Holds file.now table.now used × (parent ≤ used) × (0 < length name.now) }
     ensures { (found result ≡ find name.now (slots_of file.now (entries_in table.now used) parent)) × Within used result }
 {
@@ -22,57 +27,49 @@ pub fn get_entry(file: &[u8], table: &[u8], used: usize, parent: usize, name: &[
 }
 
 // The value of a name.
-pub fn get(file: &[u8], table: &[u8], used: usize, parent: usize, name: &[u8]) -> Field
+pub fn get(file: &[u8], table: &[u8], used: usize, parent: usize, name: &[u8]) -> Option<ClxValue>
     requires { Holds file.now table.now used × (parent ≤ used) × (0 < length name.now) }
     ensures { (field_meaning file.now (entries_in table.now used) result
         ≡ field file.now (entries_in table.now used) parent name.now) × FieldInside used result }
 {
-    match get_entry(file, table, used, parent, name) {
-        Found::Nothing => Field::Absent,
-        Found::At(i) => Field::Is(value_at(file, table, used, i)),
-    }
+    let i = get_entry(file, table, used, parent, name)?;
+    Some(value_at(file, table, used, i))
 }
 
 // The level of a name.
-pub fn get_level(file: &[u8], table: &[u8], used: usize, parent: usize, name: &[u8]) -> Found
+pub fn get_level(
+    file: &[u8],
+    table: &[u8],
+    used: usize,
+    parent: usize,
+    name: &[u8],
+) -> Option<usize>
     requires { Holds file.now table.now used × (parent ≤ used) × (0 < length name.now) }
     ensures { (found result ≡ as_level (field file.now (entries_in table.now used) parent name.now)) × Within used result }
 {
-    match get_entry(file, table, used, parent, name) {
-        Found::Nothing => Found::Nothing,
-        Found::At(i) => level_at(table, used, i),
-    }
+    level_at(table, used, get_entry(file, table, used, parent, name)?)
 }
 
 // The unsigned reading of a name's value.
-pub fn get_u64(file: &[u8], table: &[u8], used: usize, parent: usize, name: &[u8]) -> Natural
+pub fn get_u64(file: &[u8], table: &[u8], used: usize, parent: usize, name: &[u8]) -> Option<u64>
     requires { Holds file.now table.now used × (parent ≤ used) × (0 < length name.now) }
     ensures { natural result ≡ bind (field file.now (entries_in table.now used) parent name.now) unsigned }
 {
-    match get(file, table, used, parent, name) {
-        Field::Absent => Natural::Absent,
-        Field::Is(v) => as_u64(v),
-    }
+    as_u64(get(file, table, used, parent, name)?)
 }
 
 // The signed reading of a name's value.
-pub fn get_i64(file: &[u8], table: &[u8], used: usize, parent: usize, name: &[u8]) -> Integer
+pub fn get_i64(file: &[u8], table: &[u8], used: usize, parent: usize, name: &[u8]) -> Option<i64>
     requires { Holds file.now table.now used × (parent ≤ used) × (0 < length name.now) }
     ensures { integer result ≡ bind (field file.now (entries_in table.now used) parent name.now) signed }
 {
-    match get(file, table, used, parent, name) {
-        Field::Absent => Integer::Absent,
-        Field::Is(v) => as_i64(v),
-    }
+    as_i64(get(file, table, used, parent, name)?)
 }
 
 // A name's value as a double.
-pub fn get_f64(file: &[u8], table: &[u8], used: usize, parent: usize, name: &[u8]) -> Real
+pub fn get_f64(file: &[u8], table: &[u8], used: usize, parent: usize, name: &[u8]) -> Option<f64>
     requires { Holds file.now table.now used × (parent ≤ used) × (0 < length name.now) }
     ensures { real result ≡ bind (field file.now (entries_in table.now used) parent name.now) float }
 {
-    match get(file, table, used, parent, name) {
-        Field::Absent => Real::Absent,
-        Field::Is(v) => as_f64(v),
-    }
+    as_f64(get(file, table, used, parent, name)?)
 }

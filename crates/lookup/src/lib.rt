@@ -13,13 +13,6 @@ mod parts;
 pub mod place;
 pub mod value;
 
-// An entry that a search found.
-#[derive(Clone, Copy)]
-pub enum Found {
-    At(usize),
-    Nothing,
-}
-
 // A value, by its kind. Below(n) is the whole number -1 - n; Text is a place in the file and a count of units, Bytes a place and a
 // count of bytes, Level the number of its entry, and List the number of the entry whose children are its elements.
 #[derive(Clone, Copy)]
@@ -32,13 +25,6 @@ pub enum ClxValue {
     Bytes(u64, u64),
     Level(usize),
     List(usize),
-}
-
-// The value of a name in a level.
-#[derive(Clone, Copy)]
-pub enum Field {
-    Is(ClxValue),
-    Absent,
 }
 
 // What is known of the names in a level, which fall into parts: bit k of `clean` says that in part k no name comes twice. `first` is the
@@ -67,11 +53,4 @@ pub enum Turn {
         at: usize,
     },
     Over,
-}
-
-// The next child level, and where the walk stands after it.
-#[derive(Clone, Copy)]
-pub enum Next {
-    Child(usize, Turn),
-    End,
 }

@@ -3,13 +3,12 @@ ghost use Rattle.std.specs.Prelude.{◌≡◌, ℕ, ◌≤◌, ◌<◌, List, le
 ghost use Rattle.lookup.specs.Table.{entry_in, entries_in, Rows, found, Within};
 ghost use Rattle.lookup.specs.Values.{kids, head_of, list_at, elements_of, Element, Follows};
 
-use crate::Found;
 use crate::entry::{after, entry_at, parent_at};
 use crate::value::is_list;
 use format::clx_type;
 
 // The first unnamed child of a level from entry `from` of its run on.
-pub fn next_unnamed(table: &[u8], used: usize, parent: usize, from: usize) -> Found
+pub fn next_unnamed(table: &[u8], used: usize, parent: usize, from: usize) -> Option<usize>
     requires { Rows table.now used × (parent ≤ from) }
     ensures { (found result ≡ head_of (kids (entry_in table.now) parent from used)) × Within used result }
 {
@@ -18,16 +17,14 @@ pub fn next_unnamed(table: &[u8], used: usize, parent: usize, from: usize) -> Fo
         let e = entry_at(table, i);
         let p = e.parent as usize;
         if p < parent {
-            return Found::Nothing;
+            return None;
         }
-        if p == parent {
-            if e.units == 0 {
-                return Found::At(i);
-            }
+        if p == parent && e.units == 0 {
+            return Some(i);
         }
         i = after(table, used, i);
     }
-    Found::Nothing
+    None
 }
 
 // Whether entry i is a list.
@@ -36,59 +33,40 @@ fn list_at(table: &[u8], used: usize, i: usize) -> bool
     ensures { (s : List ℕ) → result ≡ list_at s (entry_in table.now) used i }
 {
     let e = entry_at(table, i);
-    if e.kind == clx_type::LEVEL {
-        is_list(table, used, i + 1)
-    } else {
-        false
-    }
+    e.kind == clx_type::LEVEL && is_list(table, used, i + 1)
 }
 
 // The first element of a list. A list in front is spread, however deep.
-pub fn first_element(table: &[u8], used: usize, parent: usize) -> Found
+pub fn first_element(table: &[u8], used: usize, parent: usize) -> Option<usize>
     requires { Rows table.now used × (parent ≤ used) }
     ensures { ((s : List ℕ) → found result ≡ head_of (elements_of s (entries_in table.now used) parent)) × Within used result }
 {
     let mut p = parent;
-    let mut left: u64 = 64;
-    loop {
-        match next_unnamed(table, used, p, p) {
-            Found::Nothing => {
-                return Found::Nothing;
-            }
-            Found::At(i) => {
-                if left == 0 {
-                    return Found::At(i);
-                }
-                if list_at(table, used, i) {
-                    p = i + 1;
-                    left -= 1;
-                } else {
-                    return Found::At(i);
-                }
-            }
+    for _ in 0..64u64 {
+        let i = next_unnamed(table, used, p, p)?;
+        if !list_at(table, used, i) {
+            return Some(i);
         }
+        p = i + 1;
     }
+    next_unnamed(table, used, p, p)
 }
 
 // The element after the element i: the next unnamed entry of its own level, or of the list in whose front that stands.
-pub fn next_element(table: &[u8], used: usize, parent: usize, i: usize) -> Found
+pub fn next_element(table: &[u8], used: usize, parent: usize, i: usize) -> Option<usize>
     requires { Rows table.now used × (i < used) × Element (entries_in table.now used) parent i }
     ensures { Follows (entries_in table.now used) parent i result × Within used result }
 {
     let mut k = i;
     loop {
         let p = parent_at(table, k);
-        match next_unnamed(table, used, p, after(table, used, k)) {
-            Found::At(j) => {
-                return Found::At(j);
-            }
-            Found::Nothing => {
-                if p == parent {
-                    return Found::Nothing;
-                }
-                k = p - 1;
-            }
+        if let Some(j) = next_unnamed(table, used, p, after(table, used, k)) {
+            return Some(j);
         }
+        if p == parent {
+            return None;
+        }
+        k = p - 1;
     }
 }
 
@@ -99,15 +77,9 @@ pub fn count_elements(table: &[u8], used: usize, parent: usize) -> u64
 {
     let mut n: u64 = 0;
     let mut at = first_element(table, used, parent);
-    loop {
-        match at {
-            Found::Nothing => {
-                return n;
-            }
-            Found::At(i) => {
-                at = next_element(table, used, parent, i);
-                n += 1;
-            }
-        }
+    while let Some(i) = at {
+        at = next_element(table, used, parent, i);
+        n += 1;
     }
+    n
 }

@@ -3,7 +3,6 @@ ghost use Rattle.std.specs.Prelude.{◌≡◌, not, ◌+◌, ◌*◌, ◌≤◌,
 ghost use Rattle.format.specs.Text.{units, lossy};
 ghost use Rattle.lookup.specs.Table.{entry_in, Lies, Holds, found, Within, child_named, last_named, is_none};
 
-use crate::Found;
 use crate::entry::{after, entry_at};
 use name::ascii::name_is;
 use name::same_name;
@@ -28,15 +27,15 @@ pub fn last_named(
     parent: usize,
     to: usize,
     name: &[u8],
-) -> Found
+) -> Option<usize>
     requires { Holds file.now table.now used × (parent ≤ to) × (to ≤ used) }
     ensures { (found result ≡ last_named file.now (entry_in table.now) parent name.now to) × Within to result }
 {
-    let mut last = Found::Nothing;
+    let mut last = None;
     let mut i = parent;
     while i < to {
         if bears(file, table, parent, i, name) {
-            last = Found::At(i);
+            last = Some(i);
         }
         i = after(table, used, i);
     }
@@ -86,10 +85,10 @@ pub fn last_alike(
     parent: usize,
     from: usize,
     to: usize,
-    before: Found,
+    before: Option<usize>,
     at: usize,
     n: usize,
-) -> Found
+) -> Option<usize>
     requires { Holds file.now table.now used × (parent ≤ from) × (from ≤ to) × (to ≤ used) × (at + 2 * n ≤ length file.now)
         × (found before ≡ last_named file.now (entry_in table.now) parent (lossy (units n file.now at)) from) × Within from before }
     ensures { (found result ≡ last_named file.now (entry_in table.now) parent (lossy (units n file.now at)) to)
@@ -99,7 +98,7 @@ pub fn last_alike(
     let mut i = from;
     while i < to {
         if alike(file, table, parent, i, at, n) {
-            last = Found::At(i);
+            last = Some(i);
         }
         i = after(table, used, i);
     }

@@ -5,11 +5,11 @@ ghost use Rattle.lookup.specs.Table.{entry_in, Lies, Rows, Holds, Run};
 ghost use Rattle.lookup.specs.Hash.{hash_of, key_of};
 ghost use Rattle.lookup.specs.Walks.{leads, PartLeads, Seen, bit, Knows};
 
+use crate::Known;
 use crate::entry::{after, entry_at};
 use crate::hash::{MARKS, hash_name, key_name, mark};
 use crate::list::next_unnamed;
 use crate::place::is_place;
-use crate::{Found, Known};
 
 // A part of a level's names has about this many, and there are at most so many parts.
 const PART: u64 = 64;
@@ -134,10 +134,7 @@ fn first_unnamed(table: &[u8], used: usize, parent: usize, end: usize) -> usize
     ensures { (s : List ℕ) (i : ℕ) → parent ≤ i → i < end → (entry_in table.now i).parent ≡ parent
         → (entry_in table.now i).units ≡ 0 → eqb i result ≡ leads s (entry_in table.now) parent i }
 {
-    match next_unnamed(table, used, parent, parent) {
-        Found::At(i) => i,
-        Found::Nothing => end,
-    }
+    next_unnamed(table, used, parent, parent).unwrap_or(end)
 }
 
 // What is known of the names of a level.

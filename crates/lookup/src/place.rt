@@ -11,7 +11,7 @@ use crate::list::next_unnamed;
 use crate::named::{borne_before, last_alike};
 use crate::parts::{alone, know};
 use crate::value::level_at;
-use crate::{Found, Known, Next, Turn};
+use crate::{Known, Turn};
 
 // Whether entry i of a level's run is a child, and the first of its name.
 pub fn is_place(file: &[u8], table: &[u8], used: usize, parent: usize, i: usize) -> bool
@@ -79,22 +79,27 @@ pub fn count_places(file: &[u8], table: &[u8], used: usize, parent: usize) -> u6
 }
 
 // The level that the only unnamed child of a level is.
-fn unnamed_level(table: &[u8], used: usize, parent: usize) -> Found
+fn unnamed_level(table: &[u8], used: usize, parent: usize) -> Option<usize>
     requires { Rows table.now used × (parent ≤ used) }
     ensures { ((s : List ℕ) → found result
         ≡ as_level (some (slot_value s (entries_in table.now used) (unnamed (kids (entry_in table.now) parent 0 used))))) × Within used result }
 {
-    match next_unnamed(table, used, parent, parent) {
-        Found::Nothing => Found::Nothing,
-        Found::At(i) => match next_unnamed(table, used, parent, i + 1) {
-            Found::Nothing => level_at(table, used, i),
-            Found::At(_) => Found::Nothing,
-        },
+    let i = next_unnamed(table, used, parent, parent)?;
+    match next_unnamed(table, used, parent, i + 1) {
+        None => level_at(table, used, i),
+        Some(_) => None,
     }
 }
 
 // The last child with the name of entry i, which has one.
-fn last_of(file: &[u8], table: &[u8], used: usize, parent: usize, end: usize, i: usize) -> Found
+fn last_of(
+    file: &[u8],
+    table: &[u8],
+    used: usize,
+    parent: usize,
+    end: usize,
+    i: usize,
+) -> Option<usize>
     requires { Holds file.now table.now used × Run (entry_in table.now) used parent end × (parent ≤ i) × (i < end)
         × ((entry_in table.now i).parent ≡ parent) }
     ensures { (found result ≡ last_named file.now (entry_in table.now) parent
@@ -108,7 +113,7 @@ fn last_of(file: &[u8], table: &[u8], used: usize, parent: usize, end: usize, i:
         parent,
         after(table, used, i),
         end,
-        Found::At(i),
+        Some(i),
         e.name as usize,
         e.units as usize,
     )
@@ -123,7 +128,7 @@ pub fn place_level(
     end: usize,
     known: Known,
     i: usize,
-) -> Found
+) -> Option<usize>
     requires { Holds file.now table.now used × Run (entry_in table.now) used parent end × (parent ≤ i) × (i < end)
         × ((entry_in table.now i).parent ≡ parent) × Knows file.now (entry_in table.now) parent end known }
     ensures { (found result ≡ as_level (some (slot_value file.now (entries_in table.now used)
@@ -136,10 +141,7 @@ pub fn place_level(
     if alone(file, table, known, i) {
         return level_at(table, used, i);
     }
-    match last_of(file, table, used, parent, end, i) {
-        Found::Nothing => Found::Nothing,
-        Found::At(j) => level_at(table, used, j),
-    }
+    level_at(table, used, last_of(file, table, used, parent, end, i)?)
 }
 
 // The next child level of a level, from entry `from` of its run on.
@@ -151,7 +153,7 @@ pub fn next_place(
     end: usize,
     known: Known,
     from: usize,
-) -> Next
+) -> Option<(usize, Turn)>
     requires { Holds file.now table.now used × Run (entry_in table.now) used parent end × (parent ≤ from)
         × Knows file.now (entry_in table.now) parent end known }
     ensures { NextOf file.now (entry_in table.now) used
@@ -161,22 +163,17 @@ pub fn next_place(
     while i < end {
         let next = after(table, used, i);
         if leads_at(file, table, used, parent, end, known, i) {
-            match place_level(file, table, used, parent, end, known, i) {
-                Found::At(k) => {
-                    return Next::Child(
-                        k,
-                        Turn::Places {
-                            parent,
-                            end,
-                            known,
-                            at: next,
-                        },
-                    );
-                }
-                Found::Nothing => {}
+            if let Some(k) = place_level(file, table, used, parent, end, known, i) {
+                let rest = Turn::Places {
+                    parent,
+                    end,
+                    known,
+                    at: next,
+                };
+                return Some((k, rest));
             }
         }
         i = next;
     }
-    Next::End
+    None
 }

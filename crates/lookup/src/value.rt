@@ -2,17 +2,17 @@
 ghost use Rattle.std.specs.Prelude.{◌≡◌, ℕ, ◌+◌, ◌-◌, ◌/◌, ◌≤◌, ◌<◌, cond, List, ltb, pos, negsuc, length};
 ghost use Rattle.std.proofs.Math.Option.{some};
 ghost use Rattle.format.specs.Values.{whole, leaf, value_at, slots_of, as_level};
-ghost use Rattle.format.specs.Numbers.{one_if, unsigned, signed, float};
+ghost use Rattle.format.specs.Numbers.{unsigned, signed, float};
 ghost use Rattle.format.specs.declared.Entry.{Entry};
 ghost use Rattle.number.specs.Readings.{natural, integer, real};
 ghost use Rattle.lookup.specs.Table.{entries_in, Lies, Rows, Holds, found, Within};
 ghost use Rattle.lookup.specs.Values.{only_unnamed, meaning, Inside};
 
+use crate::ClxValue;
 use crate::entry::{after, entry_at};
-use crate::{ClxValue, Found};
 use cursor::{le4, le8};
 use format::{Entry, clx_type};
-use number::{Integer, Natural, Real, double_of};
+use number::double_of;
 
 // Whether a level is a list: it has children, and none has a name.
 pub fn is_list(table: &[u8], used: usize, parent: usize) -> bool
@@ -99,63 +99,54 @@ pub fn value_at(file: &[u8], table: &[u8], used: usize, i: usize) -> ClxValue
 }
 
 // Entry i, where its value is a level.
-pub fn level_at(table: &[u8], used: usize, i: usize) -> Found
+pub fn level_at(table: &[u8], used: usize, i: usize) -> Option<usize>
     requires { Rows table.now used × (i < used) }
     ensures { ((s : List ℕ) → found result ≡ as_level (some (value_at s (entries_in table.now used) i))) × Within used result }
 {
     let e = entry_at(table, i);
-    if e.kind == clx_type::LEVEL {
-        if is_list(table, used, i + 1) {
-            return Found::Nothing;
-        }
-        return Found::At(i);
+    if e.kind == clx_type::LEVEL && !is_list(table, used, i + 1) {
+        Some(i)
+    } else {
+        None
     }
-    Found::Nothing
 }
 
 // ---- readings
 
-// A flag as a number.
-fn one_if(b: bool) -> u64
-    ensures { result ≡ one_if b }
-{
-    if b { 1 } else { 0 }
-}
-
 // The unsigned reading.
-pub fn as_u64(v: ClxValue) -> Natural
+pub fn as_u64(v: ClxValue) -> Option<u64>
     ensures { (s : List ℕ) (es : List Entry) → natural result ≡ unsigned (meaning s es v) }
 {
     match v {
-        ClxValue::Flag(b) => Natural::Is(one_if(b)),
-        ClxValue::Whole(n) => Natural::Is(n),
+        ClxValue::Flag(b) => Some(u64::from(b)),
+        ClxValue::Whole(n) => Some(n),
         ClxValue::Double(x) => number::unsigned(x),
-        _ => Natural::Absent,
+        _ => None,
     }
 }
 
 // The signed reading.
-pub fn as_i64(v: ClxValue) -> Integer
+pub fn as_i64(v: ClxValue) -> Option<i64>
     ensures { (s : List ℕ) (es : List Entry) → integer result ≡ signed (meaning s es v) }
 {
     match v {
-        ClxValue::Flag(b) => Integer::Is(one_if(b)),
+        ClxValue::Flag(b) => Some(i64::from(b)),
         ClxValue::Whole(n) => number::signed_whole(n),
         ClxValue::Below(n) => number::signed_below(n),
         ClxValue::Double(x) => number::signed(x),
-        _ => Integer::Absent,
+        _ => None,
     }
 }
 
 // As a double.
-pub fn as_f64(v: ClxValue) -> Real
+pub fn as_f64(v: ClxValue) -> Option<f64>
     ensures { (s : List ℕ) (es : List Entry) → real result ≡ float (meaning s es v) }
 {
     match v {
-        ClxValue::Flag(b) => Real::Is(number::of_whole(one_if(b))),
-        ClxValue::Whole(n) => Real::Is(number::of_whole(n)),
-        ClxValue::Below(n) => Real::Is(number::of_below(n)),
-        ClxValue::Double(x) => Real::Is(x),
-        _ => Real::Absent,
+        ClxValue::Flag(b) => Some(number::of_whole(u64::from(b))),
+        ClxValue::Whole(n) => Some(number::of_whole(n)),
+        ClxValue::Below(n) => Some(number::of_below(n)),
+        ClxValue::Double(x) => Some(x),
+        _ => None,
     }
 }

@@ -19,13 +19,13 @@ overflow_add-result c =
     let k = elements_short most_depth [] (entry_in a.table.now) a.used a.parent in
     omega (arith, l, k, c.requires.0.room, c.well_formed.0.1)
 
-pub returns-in-Nothing : goal.returns-in-Nothing
-returns-in-Nothing c =
+pub returns-in-None : goal.returns-in-None
+returns-in-None c =
     λ s. behind_end s (entry_in _) _ _ _
-    (is_nothing _ _ c.in-Nothing.is (c.next_element.ensures.0 s _ (c.requires.2 s)))
+    (is_nothing _ _ c.in-None.is (c.next_element.ensures.0 s _ (c.requires.2 s)))
 
-pub returns-in-At : goal.returns-in-At
-returns-in-At c =
-    λ s. behind_next s (entry_in _) _ _ _ _ (at_within _ _ _ c.in-At.is c.next_element.ensures.1)
-    (λ t. is_at _ _ _ c.in-At.is
+pub returns-in-Some : goal.returns-in-Some
+returns-in-Some c =
+    λ s. behind_next s (entry_in _) _ _ _ _ (at_within _ _ _ c.in-Some.is c.next_element.ensures.1)
+    (λ t. is_at _ _ _ c.in-Some.is
     (c.next_element.ensures.0 t _ (c.requires.2 t)))

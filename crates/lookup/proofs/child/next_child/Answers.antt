@@ -31,16 +31,16 @@ level_at-requires c =
     let g = standing_elements _ (entry_in _) _ _ _ _ _ c.in-Elements.is c.loop-walk.invariant.0 in
     (c.requires.0.rows, g.0)
 
-pub returns-in-At : goal.returns-in-At
-returns-in-At c =
+pub returns-in-Some : goal.returns-in-Some
+returns-in-Some c =
     let g = standing_elements _ (entry_in _) _ _ _ _ _ c.in-Elements.is
     c.loop-walk.invariant.0 in
     let b = c.after_element-rest.ensures _ in (
-      at_within _ _ _ c.in-At.is c.level_at.ensures.1,
+      at_within _ _ _ c.in-Some.is c.level_at.ensures.1,
       b.walk.good,
       element_some _ (entry_in _) _ _ _ _ _ _ c.in-Elements.is
           c.loop-walk.invariant.1 (g.1 _) _ b _
-          (is_at _ _ _ c.in-At.is (c.level_at.ensures.0 _)),
+          (is_at _ _ _ c.in-Some.is (c.level_at.ensures.0 _)),
     )
 
 pub loop-walk-smaller : goal.loop-walk-smaller
@@ -58,5 +58,5 @@ loop-walk-preserved c =
       b.walk.good,
       element_none _ (entry_in _) _ _ _ _ _ _ c.in-Elements.is
           c.loop-walk.invariant.1 (g.1 _) _ b
-          (is_nothing _ _ c.in-Nothing.is (c.level_at.ensures.0 _)),
+          (is_nothing _ _ c.in_default.is (c.level_at.ensures.0 _)),
     )

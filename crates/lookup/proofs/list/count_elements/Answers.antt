@@ -14,13 +14,13 @@ first_element-at-requires c = c.requires
 pub loop-at-init : goal.loop-at-init
 loop-at-init c = (c.first_element-at.ensures.1, λ s. record { next = c.first_element-at.ensures.0 s; few = omega arith })
 
-pub returns-in-Nothing : goal.returns-in-Nothing
-returns-in-Nothing c = λ s. counted_end _ _ _ (c.loop-at.invariant.1 s) c.in-Nothing.is
+pub returns : goal.returns
+returns c = λ s. counted_end _ _ _ (c.loop-at.invariant.1 s) c.in_default.is
 
 pub next_element-at-requires : goal.next_element-at-requires
 next_element-at-requires c =
     let v = c.loop-at.invariant in
-    let h = c.in-At.is in (
+    let h = c.in-Some.is in (
       c.requires.0,
       at_within _ _ _ h v.0,
       record { file = []; number = _; is = sym (is_at _ _ _ h (v.1 []).next) },
@@ -29,15 +29,15 @@ next_element-at-requires c =
 pub overflow_add-n : goal.overflow_add-n
 overflow_add-n c =
     let a = c.args in
-    let l = counted_less _ _ _ _ (c.loop-at.invariant.1 []) c.in-At.is in
+    let l = counted_less _ _ _ _ (c.loop-at.invariant.1 []) c.in-Some.is in
     let k = elements_short most_depth [] (entry_in a.table.now) a.used a.parent in
     omega (arith, l, k, c.requires.0.room, c.well_formed.0.1)
 
 pub loop-at-smaller : goal.loop-at-smaller
-loop-at-smaller c = let a = counted_less _ _ _ _ (c.loop-at.invariant.1 []) c.in-At.is in omega (arith, a)
+loop-at-smaller c = let a = counted_less _ _ _ _ (c.loop-at.invariant.1 []) c.in-Some.is in omega (arith, a)
 
 pub loop-at-preserved : goal.loop-at-preserved
 loop-at-preserved c = (
   c.next_element-at.ensures.1,
-  λ s. counted_more _ _ _ _ _ (c.loop-at.invariant.1 s) c.in-At.is (c.next_element-at.ensures.0 s _),
+  λ s. counted_more _ _ _ _ _ (c.loop-at.invariant.1 s) c.in-Some.is (c.next_element-at.ensures.0 s _),
 )

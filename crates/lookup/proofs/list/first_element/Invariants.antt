@@ -1,4 +1,4 @@
-use Prim.Native.Nat.{ℕ, ◌≤◌}
+use Prim.Native.Nat.{ℕ, ◌-◌, ◌≤◌}
 use mathlib.Core.Path.{◌≡◌}
 use mathlib.Core.List.{List}
 use Rattle.format.specs.Trees.{most_depth}
@@ -6,10 +6,7 @@ use Rattle.lookup.specs.Table.{entries_in}
 use Rattle.lookup.specs.Values.{head_of, elements_from}
 use Rattle.lookup.proofs.list.first_element.Given as goal
 
-abbrev pub invariant-loop-i : goal.invariant-loop-i
-invariant-loop-i l =
+abbrev pub invariant-loop : goal.invariant-loop
+invariant-loop l =
     (l.p ≤ l.used) × ((s : List ℕ)
-    → head_of (elements_from most_depth s (entries_in l.table l.used) l.parent) ≡ head_of (elements_from l.left s (entries_in l.table l.used) l.p))
-
-abbrev pub decreases-loop-i : goal.decreases-loop-i
-decreases-loop-i l = l.left
+    → head_of (elements_from most_depth s (entries_in l.table l.used) l.parent) ≡ head_of (elements_from (64 - l.counter) s (entries_in l.table l.used) l.p))

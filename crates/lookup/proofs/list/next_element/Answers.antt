@@ -1,7 +1,7 @@
 -- What comes after entry i comes after k, an entry in whose front i stands.
 use mathlib.Core.Path.{sym, ap, ◌∙◌}
 use native.Mathlib.Omega.{arith}
-use Rattle.lookup.specs.Table.{entry_in, found}
+use Rattle.lookup.specs.Table.{entry_in}
 use Rattle.lookup.specs.Values.{head_of}
 use Rattle.lookup.proofs.Elements.{kids_hop, after_number, number_next, next_found, next_none, next_up, next_above, element_after}
 use Rattle.lookup.proofs.Search.{is_at, is_nothing, at_within}
@@ -22,29 +22,27 @@ next_unnamed-requires c =
     let e = c.parent_at-p.ensures in
     (c.requires.0, omega (arith, c.after.ensures.below.low))
 
-pub returns-in-At : goal.returns-in-At
-unfolding found
-returns-in-At c =
+pub returns-in-Some : goal.returns-in-Some
+returns-in-Some c =
     let e = c.parent_at-p.ensures in
     let v = c.loop-j.invariant in
     let o = c.requires.0.order in
     let l = rw (← e) at (o.older _ v.0) in
-    let h = is_at _ _ _ c.in-At.is c.next_unnamed.ensures.0 ∙ ap head_of
+    let h = is_at _ _ _ c.in-Some.is c.next_unnamed.ensures.0 ∙ ap head_of
     (sym (kids_hop (entry_in _) _ _ _ _ l c.after.ensures)) in (
       λ s m q. number_next s (entry_in _) _ _ m _
           (next_found (entry_in _) _ _ _ _ o
           (v.1 _ (after_number s (entry_in _) _ _ m _ q)) _ e _ h),
-      at_within _ _ _ c.in-At.is c.next_unnamed.ensures.1,
+      at_within _ _ _ c.in-Some.is c.next_unnamed.ensures.1,
     )
 
 pub returns-then-p-parent : goal.returns-then-p-parent
-unfolding found
 returns-then-p-parent c =
     let e = c.parent_at-p.ensures in
     let v = c.loop-j.invariant in
     let o = c.requires.0.order in
     let l = rw (← e) at (o.older _ v.0) in
-    let h = is_nothing _ _ c.in-Nothing.is c.next_unnamed.ensures.0 ∙ ap head_of
+    let h = is_nothing _ _ c.in_default.is c.next_unnamed.ensures.0 ∙ ap head_of
     (sym (kids_hop (entry_in _) _ _ _ _ l c.after.ensures)) in (
       λ s m q. number_next s (entry_in _) _ _ m _
           (next_none (entry_in _) _ _ _ _ o
@@ -76,7 +74,7 @@ loop-j-preserved c =
     let q = c.parent_at-p.ensures in
     let o = c.requires.0.order in
     let l = rw (← q) at (o.older _ c.loop-j.invariant.0) in
-    let h = is_nothing _ _ c.in-Nothing.is c.next_unnamed.ensures.0 ∙ ap head_of
+    let h = is_nothing _ _ c.in_default.is c.next_unnamed.ensures.0 ∙ ap head_of
     (sym (kids_hop (entry_in _) _ _ _ _ l c.after.ensures)) in
     let z = next_above (entry_in _) _ _ _ _ p.0.order (v.1 _ (element_after (entry_in _) _ _ _ p.2)) _ e c.if-p-parent.false in
     (omega (arith, v.0), λ ys a. next_up (entry_in _) _ _ _ ys p.0.order (v.1 ys a) _ e h c.if-p-parent.false)

@@ -1,7 +1,6 @@
 -- The search has come to entry i, past whole children, and found the last of the name before it.
 use mathlib.Core.Path.{sym, ◌∙◌}
 use native.Mathlib.Omega.{arith}
-use Rattle.lookup.specs.Table.{found}
 use Rattle.lookup.proofs.Search.{within_more, sought_start, sought_on, last_yes, last_no}
 use Rattle.lookup.proofs.named.last_alike.Goals as goal
 use Rattle.lookup.proofs.named.last_alike.Goals.{then-alike, else-alike}
@@ -22,7 +21,6 @@ pub loop-i-smaller : goal.loop-i-smaller
 loop-i-smaller c = let r = c.after-i.ensures in omega (arith, r.below.low, c.loop-i-test.true)
 
 pub loop-i-preserved : goal.loop-i-preserved
-unfolding found
 loop-i-preserved c =
     let v = c.loop-i.invariant in
     let l = c.loop-i-test.true in

@@ -1,13 +1,11 @@
 -- The search has come to entry i, past whole children, and found the last of the name before it.
 use mathlib.Core.Path.{sym, ◌∙◌}
 use native.Mathlib.Omega.{arith}
-use Rattle.lookup.specs.Table.{found}
 use Rattle.lookup.proofs.Search.{sought_start, sought_on, last_yes, last_no, last_none}
 use Rattle.lookup.proofs.named.last_named.Goals as goal
 use Rattle.lookup.proofs.named.last_named.Goals.{then-bears, else-bears}
 
 pub loop-i-init : goal.loop-i-init
-unfolding found
 loop-i-init c =
     let p = c.requires in
     (omega arith, sought_start _ _ _ _ _ _ _ p.1 (sym (last_none _ _ _ _ _ _ p.0.rows.order (omega arith) (omega (arith, p.1, p.2)))), tt)
@@ -25,7 +23,6 @@ pub loop-i-smaller : goal.loop-i-smaller
 loop-i-smaller c = let r = c.after-i.ensures in omega (arith, r.below.low, c.loop-i-test.true)
 
 pub loop-i-preserved : goal.loop-i-preserved
-unfolding found
 loop-i-preserved c =
     let v = c.loop-i.invariant in
     let l = c.loop-i-test.true in

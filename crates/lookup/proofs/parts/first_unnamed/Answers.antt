@@ -1,18 +1,24 @@
 -- The first child without a name leads, and no other.
-use native.Mathlib.Omega.{arith}
-use Rattle.lookup.specs.Table.{entry_in}
+use Prim.Native.Nat.{ℕ, ◌≤◌, ◌<◌}
+use mathlib.Core.Path.{◌≡◌}
+use mathlib.Core.List.{List}
+use lib.Dec.{eqb}
+use Rattle.std.specs.Prelude as std
+use Rattle.std.specs.Option.{unwrap_or}
+use Rattle.format.specs.declared.Entry.{Entry}
+use Rattle.lookup.specs.Table.{entry_in, Ordered, found}
+use Rattle.lookup.specs.Values.{kids, head_of}
+use Rattle.lookup.specs.Walks.{leads}
 use Rattle.lookup.proofs.Leading.{first_leads, none_leads_there}
-use Rattle.lookup.proofs.Search.{is_at, is_nothing}
+use native.Mathlib.Omega.{arith}
 use Rattle.lookup.proofs.parts.first_unnamed.Goals as goal
 
-pub returns-in-At : goal.returns-in-At
-returns-in-At c =
-    let p = c.requires in
-    let h = is_at _ _ _ c.in-At.is c.next_unnamed.ensures.0 in
-    λ s i a b d u. first_leads s (entry_in _) _ _ p.0.order p.1 _ h i (omega (arith, b, p.2)) d u
+first_is : (s : List ℕ) (e : ℕ → Entry) (p n r : ℕ) (o : std.Option ℕ) → Ordered e n → p ≤ n → found o ≡ head_of (kids e p p n)
+    → (i : ℕ) → i < n → (e i).parent ≡ p → (e i).units ≡ 0 → eqb i (unwrap_or o r) ≡ leads s e p i
+first_is s e p n r (std.Some j) o l h i a d u = first_leads s e p n o l j h i a d u
+first_is s e p n r std.None o l h i a d u = absurd (none_leads_there s e p n o l h i a d u)
 
-pub returns-in-Nothing : goal.returns-in-Nothing
-returns-in-Nothing c =
+pub returns : goal.returns
+returns c =
     let p = c.requires in
-    let h = is_nothing _ _ c.in-Nothing.is c.next_unnamed.ensures.0 in
-    λ s i a b d u. absurd (none_leads_there s (entry_in _) _ _ p.0.order p.1 h i (omega (arith, b, p.2)) d u)
+    rw c.unwrap_or.ensures (λ s i a b d u. first_is s (entry_in _) _ _ _ _ p.0.order p.1 c.next_unnamed.ensures.0 i (omega (arith, b, p.2)) d u)

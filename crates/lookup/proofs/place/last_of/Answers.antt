@@ -1,14 +1,14 @@
 -- The entry itself is the last of its name so far.
 use native.Mathlib.Omega.{arith}
 use Rattle.format.specs.Values.{name_of}
-use Rattle.lookup.specs.Table.{entry_in, found}
+use Rattle.lookup.specs.Table.{entry_in}
 use Rattle.lookup.proofs.Leading.{last_own}
 use Rattle.lookup.proofs.Rows.{run_inside}
 use Rattle.lookup.proofs.Search.{within_more}
 use Rattle.lookup.proofs.place.last_of.Goals as goal
 
 pub last_alike-requires : goal.last_alike-requires
-unfolding found name_of
+unfolding name_of
 last_alike-requires c =
     let p = c.requires in
     let r = c.after.ensures in (

@@ -27,27 +27,27 @@ place_level-requires c =
     let v = c.loop-i.invariant in
     (p.0, p.1, v.0, c.loop-i-test.true, leads_child _ (entry_in _) _ _ (sym c.leads_at.ensures ∙ c.if-leads_at.true), p.3)
 
-pub returns-in-At : goal.returns-in-At
-returns-in-At c =
+pub returns-in-Some : goal.returns-in-Some
+returns-in-Some c =
     let p = c.requires in
     let v = c.loop-i.invariant in
     let r = c.after-next.ensures in
     let u = c.place_level.ensures in
     let t = c.loop-i-test.true in
     let l : c.loop-i.i < c.args.used = omega (arith, t, p.1.below.high) in (
-      at_within _ _ _ c.in-At.is u.1,
+      at_within _ _ _ c.in-Some.is u.1,
       (p.1, omega (arith, v.0, r.below.low), p.3),
       v.1 ∙ levels_found _ (entry_in _) _ _ _ _ _ l
           (sym c.leads_at.ensures ∙ c.if-leads_at.true)
-          (is_at _ _ _ c.in-At.is u.0) v.0 r,
+          (is_at _ _ _ c.in-Some.is u.0) v.0 r,
     )
 
-pub loop-i-smaller-in-Nothing : goal.loop-i-smaller-in-Nothing
-loop-i-smaller-in-Nothing c =
+pub loop-i-smaller-in_default : goal.loop-i-smaller-in_default
+loop-i-smaller-in_default c =
     omega (arith, c.after-next.ensures.below.low, c.loop-i-test.true)
 
-pub loop-i-preserved-in-Nothing : goal.loop-i-preserved-in-Nothing
-loop-i-preserved-in-Nothing c =
+pub loop-i-preserved-in_default : goal.loop-i-preserved-in_default
+loop-i-preserved-in_default c =
     let p = c.requires in
     let v = c.loop-i.invariant in
     let r = c.after-next.ensures in
@@ -55,7 +55,7 @@ loop-i-preserved-in-Nothing c =
     let l : c.loop-i.i < c.args.used = omega (arith, t, p.1.below.high) in (
       omega (arith, v.0, r.below.low),
       v.1 ∙ levels_none _ (entry_in _) _ _ _ l (sym c.leads_at.ensures ∙ c.if-leads_at.true)
-          (is_nothing _ _ c.in-Nothing.is c.place_level.ensures.0)
+          (is_nothing _ _ c.in_default.is c.place_level.ensures.0)
           ∙ levels_hop _ (entry_in _) _ _ _ _ v.0 r,
     )
 

@@ -3,9 +3,8 @@ use native.Mathlib.Omega.{arith}
 use mathlib.Core.Path.{sym, ap, ◌∙◌}
 use Rattle.format.specs.declared.Entry.{Entry}
 use Rattle.format.specs.Values.{name_of}
-use Rattle.lookup.specs.Table.{entry_in, found}
+use Rattle.lookup.specs.Table.{entry_in}
 use Rattle.lookup.proofs.Leading.{last_alone}
-use Rattle.lookup.proofs.Search.{is_at, is_nothing, at_within}
 use Rattle.lookup.proofs.Turns.{place_unnamed, place_named, place_absent}
 use Rattle.lookup.proofs.place.place_level.Goals as goal
 
@@ -34,29 +33,23 @@ returns-then-alone c =
     let z = last_alone _ (entry_in _) _ _ _ _ m p.2 p.3 p.4 (λ z. u (ap (λ (y : Entry). y.units) e.ensures ∙ z)) in
     (place_named _ (entry_in _) _ _ _ e.result e.ensures _ _ _ p.1 u (sym (rw e.ensures z)) (c.level_at.ensures.0 _), c.level_at.ensures.1)
 
-pub level_at-requires-in-At : goal.level_at-requires-in-At
-level_at-requires-in-At c = (
-  c.requires.0.rows,
-  at_within _ _ _ c.in-At.is c.last_of.ensures.1,
-)
+pub level_at-requires-2 : goal.level_at-requires-2
+level_at-requires-2 c = (c.requires.0.rows, c.in_ok-last_of.ensures.1)
 
-pub returns-in-Nothing : goal.returns-in-Nothing
-unfolding found name_of
-returns-in-Nothing c =
+pub returns-in_err-last_of : goal.returns-in_err-last_of
+unfolding name_of
+returns-in_err-last_of c =
     let e = c.entry_at-e in
-    let l = is_nothing _ _ c.in-Nothing.is c.last_of.ensures.0 in (
-      place_absent _ (entry_in _) _ _ _ e.result e.ensures _ c.requires.1
-          c.if-e-eq0.false (rw e.ensures l),
+    rw c.from_residual.ensures (
+      place_absent _ (entry_in _) _ _ _ e.result e.ensures _ c.requires.1 c.if-e-eq0.false (rw e.ensures c.in_err-last_of.ensures.0),
       tt,
     )
 
-pub returns-in-At : goal.returns-in-At
+pub returns : goal.returns
 unfolding name_of
-returns-in-At c =
-    let e = c.entry_at-e in
-    let l = is_at _ _ _ c.in-At.is c.last_of.ensures.0 in (
-      place_named _ (entry_in _) _ _ _ e.result e.ensures _ _ _
-          c.requires.1
-          c.if-e-eq0.false (rw e.ensures l) (c.level_at-in-At.ensures.0 _),
-      c.level_at-in-At.ensures.1,
+returns c =
+    let e = c.entry_at-e in (
+      place_named _ (entry_in _) _ _ _ e.result e.ensures _ _ _ c.requires.1
+          c.if-e-eq0.false (rw e.ensures c.in_ok-last_of.ensures.0) (c.level_at-2.ensures.0 _),
+      c.level_at-2.ensures.1,
     )

@@ -4,7 +4,7 @@ use Rattle.lookup.proofs.Readings.{float_flag, float_whole, float_below, float_d
 use Rattle.lookup.proofs.value.as_f64.Goals as goal
 
 pub returns-in-Flag : goal.returns-in-Flag
-returns-in-Flag c = λ s es. float_flag s es _ _ _ _ c.in-Flag.is c.one_if.ensures c.of_whole.ensures
+returns-in-Flag c = λ s es. float_flag s es _ _ _ _ c.in-Flag.is c.from.ensures c.of_whole.ensures
 
 pub returns-in-Whole : goal.returns-in-Whole
 returns-in-Whole c = λ s es. float_whole s es _ _ _ c.in-Whole.is c.of_whole-in-Whole.ensures

@@ -1,10 +1,11 @@
 -- Each kind that reads as a signed number, and any other.
-use Rattle.std.proofs.Common.{rules}
+use Rattle.std.proofs.Common.{rules, w64, arith}
+use Rattle.std.proofs.lemmas.Int.{to_z-of_z}
 use Rattle.lookup.proofs.Readings.{signed_flag, signed_whole, signed_below, signed_double, signed_other}
 use Rattle.lookup.proofs.value.as_i64.Goals as goal
 
 pub returns-in-Flag : goal.returns-in-Flag
-returns-in-Flag c = λ s es. signed_flag s es _ _ _ c.in-Flag.is c.one_if.ensures
+returns-in-Flag c = λ s es. rw (to_z-of_z w64 c.from.result (omega arith)) (signed_flag s es _ _ _ c.in-Flag.is c.from.ensures)
 
 pub returns-in-Whole : goal.returns-in-Whole
 returns-in-Whole c = λ s es. signed_whole s es _ _ _ c.in-Whole.is c.signed_whole.ensures

@@ -5,7 +5,7 @@ use native.Mathlib.Omega.{arith}
 use Rattle.lookup.proofs.value.as_u64.Goals as goal
 
 pub returns-in-Flag : goal.returns-in-Flag
-returns-in-Flag c = λ s es. unsigned_flag s es _ _ _ c.in-Flag.is c.one_if.ensures
+returns-in-Flag c = λ s es. unsigned_flag s es _ _ _ c.in-Flag.is c.from.ensures
 
 pub returns-in-Whole : goal.returns-in-Whole
 returns-in-Whole c = λ s es. unsigned_whole s es _ _ (omega arith) c.in-Whole.is
