@@ -2,7 +2,7 @@
 ghost use Rattle.std.specs.Prelude.{◌≡◌, ◌+◌, ◌*◌, ◌≤◌, ◌<◌, length};
 ghost use Rattle.lookup.specs.Table.{entry_in, Rows, Split, Run};
 
-use cursor::le8;
+use cursor::le;
 use format::Entry;
 
 // Entry number i.
@@ -12,12 +12,12 @@ pub fn entry_at(table: &[u8], i: usize) -> Entry
 {
     let at = 48 * i;
     Entry {
-        kind: le8(table, at),
-        name: le8(table, at + 8),
-        units: le8(table, at + 16),
-        value: le8(table, at + 24),
-        size: le8(table, at + 32),
-        parent: le8(table, at + 40),
+        kind: le::<8>(table, at),
+        name: le::<8>(table, at + 8),
+        units: le::<8>(table, at + 16),
+        value: le::<8>(table, at + 24),
+        size: le::<8>(table, at + 32),
+        parent: le::<8>(table, at + 40),
     }
 }
 
@@ -26,7 +26,7 @@ pub fn parent_at(table: &[u8], i: usize) -> usize
     requires { 48 * i + 48 ≤ length table.now }
     ensures { result ≡ (entry_in table.now i).parent }
 {
-    le8(table, 48 * i + 40) as usize
+    le::<8>(table, 48 * i + 40) as usize
 }
 
 // Where the name of entry i begins in the file.
@@ -34,7 +34,7 @@ fn name_at(table: &[u8], i: usize) -> u64
     requires { 48 * i + 48 ≤ length table.now }
     ensures { result ≡ (entry_in table.now i).name }
 {
-    le8(table, 48 * i + 8)
+    le::<8>(table, 48 * i + 8)
 }
 
 // Where the value of entry i ends in the file.
@@ -43,7 +43,7 @@ fn value_end(table: &[u8], used: usize, i: usize) -> u64
     ensures { result ≡ (entry_in table.now i).value + (entry_in table.now i).size }
 {
     let at = 48 * i;
-    le8(table, at + 24) + le8(table, at + 32)
+    le::<8>(table, at + 24) + le::<8>(table, at + 32)
 }
 
 // The first of the entries from `low` up to `high` whose name stands behind `to`, or `high`. Names rise, so it is found by halving.

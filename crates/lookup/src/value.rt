@@ -10,7 +10,7 @@ ghost use Rattle.lookup.specs.Values.{only_unnamed, meaning, Inside};
 
 use crate::ClxValue;
 use crate::entry::{after, entry_at};
-use cursor::{le4, le8};
+use cursor::le;
 use format::{Entry, clx_type};
 use number::double_of;
 
@@ -62,16 +62,16 @@ fn leaf_of(file: &[u8], e: Entry) -> ClxValue
         return ClxValue::Flag(file[at] != 0);
     }
     if kind == clx_type::INT32 {
-        return signed_of(le4(file, at), 0xFFFF_FFFF);
+        return signed_of(le::<4>(file, at), 0xFFFF_FFFF);
     }
     if kind == clx_type::UINT32 {
-        return ClxValue::Whole(le4(file, at));
+        return ClxValue::Whole(le::<4>(file, at));
     }
     if kind == clx_type::INT64 {
-        return signed_of(le8(file, at), 0xFFFF_FFFF_FFFF_FFFF);
+        return signed_of(le::<8>(file, at), 0xFFFF_FFFF_FFFF_FFFF);
     }
     if kind == clx_type::DOUBLE {
-        return ClxValue::Double(double_of(le8(file, at)));
+        return ClxValue::Double(double_of(le::<8>(file, at)));
     }
     if kind == clx_type::STRING {
         return ClxValue::Text(e.value, e.size / 2);
@@ -79,7 +79,7 @@ fn leaf_of(file: &[u8], e: Entry) -> ClxValue
     if kind == clx_type::BYTEARRAY {
         return ClxValue::Bytes(e.value, e.size);
     }
-    ClxValue::Whole(le8(file, at))
+    ClxValue::Whole(le::<8>(file, at))
 }
 
 // The value of entry i.

@@ -4,4 +4,4 @@ use Rattle.lookup.proofs.entry.name_at.Goals as goal
 
 pub returns : goal.returns
 unfolding entry_in
-returns c = c.le8.ensures
+returns c = c.le.ensures.0

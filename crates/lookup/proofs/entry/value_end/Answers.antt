@@ -6,8 +6,8 @@ use Rattle.lookup.proofs.entry.value_end.Goals as goal
 pub overflow_add-result : goal.overflow_add-result
 unfolding entry_in
 overflow_add-result c =
-    let h = c.requires.0.short _ c.requires.1 in omega (arith, h, c.le8.ensures, c.le8-2.ensures)
+    let h = c.requires.0.short _ c.requires.1 in omega (arith, h, c.le.ensures.0, c.le-2.ensures.0)
 
 pub returns : goal.returns
 unfolding entry_in
-returns c = rw (c.le8.ensures, c.le8-2.ensures)
+returns c = rw (c.le.ensures.0, c.le-2.ensures.0)
