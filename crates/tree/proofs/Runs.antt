@@ -14,6 +14,9 @@ use lib.Seq.{sets, length-sets}
 use Rattle.format.proofs.Ground.Bytes.{sets_append}
 use Rattle.format.proofs.Trees.Tables.{table_append, length_table, within_whole, within_full}
 use Rattle.format.proofs.Trees.ByRules.{then_more, value_some}
+use Rattle.std.specs.Prelude.{Option, Some, None, Result, Ok, Err}
+use Rattle.format.specs.Given.{number}
+use Rattle.format.specs.declared.refusal.Refusal.{Refusal}
 use Rattle.format.specs.Refusals as why
 use Rattle.format.specs.Trees.{Stop, at, fault, Read, ends, follow, then, children_or9, level_end, value, entry_of, records, children_at, room_in, within}
 use Rattle.format.specs.Trees.{entry_bytes, table_bytes}
@@ -26,12 +29,6 @@ use Rattle.cursor.proofs.Answers.{value_level}
 use Rattle.tree.specs.Steps.{LevelEnded, entry_for, records_at, value_at, Stops, Went, Ran}
 use Rattle.cursor.specs.declared.record.Name.{Name}
 use Rattle.tree.specs.declared.Spot.{Spot}
-use Rattle.cursor.specs.declared.record.Head.{Head}
-use Rattle.cursor.specs.declared.record.Head.TheVariants.{Named, Bad, End}
-use Rattle.cursor.specs.declared.record.Leaf.TheVariants.{Value, Wrong}
-use Rattle.cursor.specs.declared.record.Level.TheVariants.{Inner, Unfit}
-use Rattle.tree.specs.declared.Step.{Step}
-use Rattle.tree.specs.declared.Step.TheVariants.{Next, Fault}
 
 -- ---- the table
 
@@ -122,7 +119,7 @@ module _ (d : List ℕ) (base : ℕ) (p : Spot) where
   rest_none c u zero h = refl
   rest_none c u (suc k) h = absurd (omega arith)
 
-  rest_head : (c : Cursor) (u k : ℕ) {r : Head} → 0 < k → HeadRead d c r
+  rest_head : (c : Cursor) (u k : ℕ) {r : Result (Option (Name × Cursor)) Refusal} → 0 < k → HeadRead d c r
       → rest_of d base p c u k
       ≡ from_head (λ n v. value_at d base n v (spot_at p u))
       (λ n q. records d base (children_at p.levels d base) p.parent (k - 1) (u + n) q c.end) c r
@@ -176,13 +173,13 @@ module _ {d : List ℕ} {base : ℕ} {p : Spot} {t₀ : List ℕ} {c₀ : Cursor
   pub ends_none : k ≤ 0 → Went t₀ t c₀.end u₀ (rest_of d base p c₀ u₀ k₀) c u
   ends_none h = over (rest_none d base p c u k h)
 
-  pub ends_here : 0 < k → HeadRead d c End → Went t₀ t c₀.end u₀ (rest_of d base p c₀ u₀ k₀) c u
+  pub ends_here : 0 < k → HeadRead d c (Ok None) → Went t₀ t c₀.end u₀ (rest_of d base p c₀ u₀ k₀) c u
   ends_here h w = over (rest_head d base p c u k h w)
 
-  pub ends_bad : {x : ℕ} → 0 < k → HeadRead d c (Bad x) → Stops (room_in (length t₀) - u₀) (rest_of d base p c₀ u₀ k₀) x
+  pub ends_bad : {x : Refusal} → 0 < k → HeadRead d c (Err x) → Stops (room_in (length t₀) - u₀) (rest_of d base p c₀ u₀ k₀) (number x)
   ends_bad h w = ended (rw (rest_head d base p c u k h w) (stops (whole (omega arith) refl)))
 
-  module _ {n : Name} {v : Cursor} (pos : 0 < k) (head : HeadRead d c (Named n v)) where
+  module _ {n : Name} {v : Cursor} (pos : 0 < k) (head : HeadRead d c (Ok (Some (n, v)))) where
     abbrev val : Read
     val = value_at d base n v (spot_at p u)
 
@@ -229,17 +226,17 @@ pub record Placed (d : List ℕ) (base : ℕ) (n : Name) (v : Cursor) (p : Spot)
 
 module _ {d : List ℕ} {base : ℕ} {n : Name} {v : Cursor} {p : Spot} {t : List ℕ} (P : Placed d base n v p t) where
   -- a value that is no level, with a fault and read
-  pub leaf_stops : {x : ℕ} → LeafRead d v.end (value d (children_at p.levels d base p.used) n.kind n.start v.at v.end) (Wrong x)
-      → Stops (room_in (length t) - p.used) (value_at d base n v p) x
+  pub leaf_stops : {x : Refusal} → LeafRead d v.end (value d (children_at p.levels d base p.used) n.kind n.start v.at v.end) (Err x)
+      → Stops (room_in (length t) - p.used) (value_at d base n v p) (number x)
   leaf_stops l = stops_one (omega (arith, P.left)) (l.says (entry_of d base p.parent n.start))
 
   -- a level with a fault before its children
-  pub level_unfit : {x : ℕ} → n.kind ≡ 11 → LevelRead d n.start v (Unfit x) → Stops (room_in (length t) - p.used) (value_at d base n v p) x
+  pub level_unfit : {x : Refusal} → n.kind ≡ 11 → LevelRead d n.start v (Err x) → Stops (room_in (length t) - p.used) (value_at d base n v p) (number x)
   level_unfit k l =
       rw (value_level d (children_at p.levels d base p.used) n.kind n.start v.at v.end k (entry_of d base p.parent n.start))
       (stops_one (omega (arith, P.left)) (l.says (children_at p.levels d base p.used) (entry_of d base p.parent n.start)))
 
-  module _ {k : ℕ} {c a : Cursor} (kind : n.kind ≡ 11) (level : LevelRead d n.start v (Inner k c a)) where
+  module _ {k : ℕ} {c a : Cursor} (kind : n.kind ≡ 11) (level : LevelRead d n.start v (Ok (record { count = k; inner = c; after = a }))) where
     level_is : value_at d base n v p ≡ children_or9 (children_at p.levels d base p.used) k c.at c.end (entry_of d base p.parent n.start) v.end
     level_is =
         value_level d (children_at p.levels d base p.used) n.kind n.start v.at v.end kind (entry_of d base p.parent n.start)
@@ -257,7 +254,7 @@ module _ {d : List ℕ} {base : ℕ} {n : Name} {v : Cursor} {p : Spot} {t : Lis
   put_is x y e = e ∙ ap (λ (z : Entry). sets t (48 * p.used) (entry_bytes z)) (entry_is x y) ∙ sym (put_one t p.used _)
 
   pub leaf_went : {t₁ : List ℕ} {x y : ℕ} {c : Cursor}
-      → LeafRead d v.end (value d (children_at p.levels d base p.used) n.kind n.start v.at v.end) (Value x y c)
+      → LeafRead d v.end (value d (children_at p.levels d base p.used) n.kind n.start v.at v.end) (Ok (record { at = x; size = y; next = c }))
       → t₁ ≡ sets t (48 * p.used) (entry_bytes (entry_for base p.parent n x y)) → Fit (entry_for base p.parent n x y)
       → Went t t₁ v.end p.used (value_at d base n v p) c (p.used + 1)
   leaf_went {t₁} {x} {y} l e f =
@@ -273,7 +270,7 @@ module _ {d : List ℕ} {base : ℕ} {n : Name} {v : Cursor} {p : Spot} {t : Lis
       })
 
   -- a level's entry is stored, and its children are read
-  module _ {k : ℕ} {c a : Cursor} (kind : n.kind ≡ 11) (level : LevelRead d n.start v (Inner k c a)) (some : p.levels ≡ 0 → ⊥)
+  module _ {k : ℕ} {c a : Cursor} (kind : n.kind ≡ 11) (level : LevelRead d n.start v (Ok (record { count = k; inner = c; after = a }))) (some : p.levels ≡ 0 → ⊥)
       {t₁ : List ℕ} (put : t₁ ≡ sets t (48 * p.used) (entry_bytes (entry_for base p.parent n c.at (c.end - c.at)))) where
     abbrev own : Entry
     own = entry_of d base p.parent n.start c.at (c.end - c.at)
@@ -303,15 +300,15 @@ module _ {d : List ℕ} {base : ℕ} {n : Name} {v : Cursor} {p : Spot} {t : Lis
       level_end_is : {z : Stop} → level_end k c.end v.end ≡ z → value_at d base n v p ≡ record { entries = own ∷ kids.entries; stop = z }
       level_end_is {z} e = level_then ∙ rw (then_at kids (λ m q. ends (level_end k c.end v.end)) b.at W.stop, e, append-nil)
 
-      pub level_went : Fit (entry_for base p.parent n c.at (c.end - c.at)) → (r : Step) → LevelEnded a k w r
+      pub level_went : Fit (entry_for base p.parent n c.at (c.end - c.at)) → (r : Result (Cursor × ℕ) Refusal) → LevelEnded a k w r
           → Ran t t₂ v.end p.used (value_at d base n v p) r
-      level_went f (Fault x) s =
+      level_went f (Err x) s =
           let g = level.good in
-          let e : level_end k c.end v.end ≡ fault x = rw (← g.seam, ← g.last) (sym s.says) in
+          let e : level_end k c.end v.end ≡ fault (number x) = rw (← g.seam, ← g.last) (sym s.says) in
           let u = W.used in
           let l = W.room in
           rw (level_end_is e) (stops (whole (omega (arith, room_is, P.left)) refl))
-      level_went f (Next q u) s =
+      level_went f (Ok (q, u)) s =
           let g = level.good in
           let e : level_end k c.end v.end ≡ at q.at = rw (← g.seam, ← g.last) (sym s.says) in
           rw (level_end_is e)

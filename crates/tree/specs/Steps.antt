@@ -1,6 +1,8 @@
 -- What each answer of the crate's functions says of the format's readings, case by case.
-use Rattle.std.specs.Prelude.{ℕ, ◌+◌, ◌-◌, ◌*◌, ◌≤◌, ◌≡◌, List, length, take}
+use Rattle.std.specs.Prelude.{ℕ, ◌+◌, ◌-◌, ◌*◌, ◌≤◌, ◌≡◌, List, length, take, Result, Ok, Err}
 use Rattle.format.specs.Answer.{Answer, given, refused}
+use Rattle.format.specs.Given.{number}
+use Rattle.format.specs.declared.refusal.Refusal.{Refusal}
 use Rattle.format.specs.Trees.{Stop, at, fault, Read, level_end, records, children_at, read, room_in, within, tree_entries, table_bytes}
 use Rattle.format.specs.declared.Entry.{Entry}
 use Rattle.cursor.specs.Steps.{value_of}
@@ -8,22 +10,18 @@ use Rattle.cursor.specs.declared.Cursor.{Cursor}
 use Rattle.cursor.specs.declared.record.Name.{Name}
 use Rattle.tree.specs.Table.{entries_in, AllFit, put_all}
 use Rattle.tree.specs.declared.Spot.{Spot}
-use Rattle.tree.specs.declared.Step.{Step}
-use Rattle.tree.specs.declared.Step.TheVariants.{Next, Fault}
-use Rattle.tree.specs.declared.Parsed.{Parsed}
-use Rattle.tree.specs.declared.Parsed.TheVariants.{Entries, Refused}
 
 -- ---- a level's end
 
-abbrev pub stop_of : Step → Stop
-stop_of (Next c u) = at c.at
-stop_of (Fault x) = fault x
+abbrev pub stop_of : Result (Cursor × ℕ) Refusal → Stop
+stop_of (Ok (c, u)) = at c.at
+stop_of (Err x) = fault (number x)
 
-abbrev pub GoodEnd : ℕ → ℕ → Step → Type 0
-GoodEnd e used (Next c u) = (c.at ≤ e) × (c.end ≡ e) × (u ≡ used)
-GoodEnd e used (Fault x) = Unit
+abbrev pub GoodEnd : ℕ → ℕ → Result (Cursor × ℕ) Refusal → Type 0
+GoodEnd e used (Ok (c, u)) = (c.at ≤ e) × (c.end ≡ e) × (u ≡ used)
+GoodEnd e used (Err x) = Unit
 
-pub record LevelEnded (c : Cursor) (count used : ℕ) (r : Step) : Type 0 where
+pub record LevelEnded (c : Cursor) (count used : ℕ) (r : Result (Cursor × ℕ) Refusal) : Type 0 where
   pub says : stop_of r ≡ level_end count c.at c.end
   pub good : GoodEnd c.end used r
 
@@ -55,9 +53,9 @@ pub record Went (t t' : List ℕ) (e u : ℕ) (o : Read) (c : Cursor) (w : ℕ) 
   pub last : c.end ≡ e
 
 -- what a table t with u entries in use makes of the reading o
-abbrev pub Ran : List ℕ → List ℕ → ℕ → ℕ → Read → Step → Type 0
-Ran t t' e u o (Next c w) = Went t t' e u o c w
-Ran t t' e u o (Fault x) = Stops (room_in (length t) - u) o x
+abbrev pub Ran : List ℕ → List ℕ → ℕ → ℕ → Read → Result (Cursor × ℕ) Refusal → Type 0
+Ran t t' e u o (Ok (c, w)) = Went t t' e u o c w
+Ran t t' e u o (Err x) = Stops (room_in (length t) - u) o (number x)
 
 -- ---- a tree
 
@@ -66,9 +64,9 @@ abbrev pub tree_into : List ℕ → ℕ → ℕ → Answer (List Entry)
 tree_into d base n = tree_entries (within (room_in n) (read d base))
 
 -- what an answer is, by the table t that was lent: its first entries, or the refusal's number
-abbrev pub parsed_in : List ℕ → Parsed → Answer (List Entry)
-parsed_in t (Entries n) = given (entries_in t n)
-parsed_in t (Refused x) = refused x
+abbrev pub parsed_in : List ℕ → Result ℕ Refusal → Answer (List Entry)
+parsed_in t (Ok n) = given (entries_in t n)
+parsed_in t (Err x) = refused (number x)
 
 -- the table t begins with a tree's entries
 abbrev pub Front : List ℕ → Answer (List Entry) → Type 0
@@ -76,6 +74,6 @@ Front t (given es) = take (48 * length es) t ≡ table_bytes es
 Front t (refused x) = Unit
 
 -- the entries that are counted stand in a table of n bytes
-abbrev pub Fits : ℕ → Parsed → Type 0
-Fits n (Entries w) = 48 * w ≤ n
-Fits n (Refused x) = Unit
+abbrev pub Fits : ℕ → Result ℕ Refusal → Type 0
+Fits n (Ok w) = 48 * w ≤ n
+Fits n (Err x) = Unit

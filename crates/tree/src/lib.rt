@@ -9,10 +9,11 @@ ghost use Rattle.cursor.specs.Steps.{HeadRead, Headed};
 ghost use Rattle.tree.specs.Table.{Fit};
 ghost use Rattle.tree.specs.Steps.{LevelEnded, entry_for, records_at, value_at, Ran, tree_into, parsed_in, Front, Fits};
 
-use chunk_cursor::{Start, record_start};
-use cursor::record::{Head, Leaf, Level, Name, Skip};
-use cursor::{Cursor, put8};
-use format::{Entry, clx_type, refusal};
+use chunk_cursor::record_start;
+use cursor::record::Name;
+use cursor::{Cursor, put};
+use format::refusal::Refusal;
+use format::{Entry, clx_type};
 
 // Levels may stand this many deep, one in another.
 pub const MAX_CLX_DEPTH: usize = 64;
@@ -28,42 +29,26 @@ pub struct Spot {
     pub levels: usize,
 }
 
-// The cursor after records or a value, and the entries in use by then; or a fault.
-#[derive(Clone, Copy)]
-pub enum Step {
-    Next(Cursor, usize),
-    Fault(u32),
-}
-
-// A tree: how many entries it has; or why it is refused.
-#[derive(Clone, Copy)]
-pub enum Parsed {
-    Entries(usize),
-    Refused(u32),
-}
-
-// The head of the record at the cursor.
-fn read_head(d: &[u8], c: Cursor) -> Head
+// The head of the record at the cursor; none where too few bytes are left for a record.
+fn read_head(d: &[u8], c: Cursor) -> Result<Option<(Name, Cursor)>, Refusal>
     requires { Within c d.now }
     ensures { HeadRead d.now c result }
 {
     let at = c.at;
     let end = c.end;
-    match record_start(&d[..end], at) {
-        Start::End => Head::End,
-        Start::Begun(kind, units, name) => name.judge_head(kind, units, at),
-    }
+    let Some(start) = record_start(&d[..end], at) else {
+        return Ok(None);
+    };
+    start.name.judge_head(start.kind, start.units, at)
 }
 
 // Past a level's offsets, with the entries in use.
-fn end_level(c: Cursor, count: usize, used: usize) -> Step
+fn end_level(c: Cursor, count: usize, used: usize) -> Result<(Cursor, usize), Refusal>
     requires { c.at ≤ c.end }
     ensures { LevelEnded c count used result }
 {
-    match c.skip_offsets(count) {
-        Skip::Past(next) => Step::Next(next, used),
-        Skip::Short => Step::Fault(refusal::CUT),
-    }
+    let next = c.skip_offsets(count)?;
+    Ok((next, used))
 }
 
 // The entry of the record n, with `size` bytes of value at `at`. Its positions are those in the file.
@@ -87,15 +72,15 @@ fn put_entry(table: &mut [u8], u: usize, e: Entry)
     ensures { (table.new ≡ sets table.old (48 * u) (entry_bytes e)) × Fit e }
 {
     let at = ENTRY_BYTES * u;
-    put8(table, at, e.kind);
-    put8(table, at + 8, e.name);
-    put8(table, at + 16, e.units);
-    put8(table, at + 24, e.value);
-    put8(table, at + 32, e.size);
-    put8(table, at + 40, e.parent);
+    put::<8>(table, at, e.kind);
+    put::<8>(table, at + 8, e.name);
+    put::<8>(table, at + 16, e.units);
+    put::<8>(table, at + 24, e.value);
+    put::<8>(table, at + 32, e.size);
+    put::<8>(table, at + 40, e.parent);
 }
 
-// At most `count` records from the cursor on.
+// At most `count` records from the cursor on: the cursor after them, and the entries in use by then.
 #[cycle(parse_clx_records_parse_clx_value)]
 fn parse_clx_records(
     d: &[u8],
@@ -104,86 +89,72 @@ fn parse_clx_records(
     c: Cursor,
     count: usize,
     p: Spot,
-) -> Step
+) -> Result<(Cursor, usize), Refusal>
     requires { Within c d.now × (base + length d.now < 2 ^ 64) × (p.used ≤ room_in (length table.old)) }
     ensures { Ran table.old table.new c.end p.used (records_at d.now base c count p) result }
 {
     let mut at = c;
     let mut used = p.used;
-    let mut left = count;
-    while 0 < left {
-        match read_head(d, at) {
-            Head::End => return Step::Next(at, used),
-            Head::Bad(f) => return Step::Fault(f),
-            Head::Named(n, v) => {
-                if table.len() / ENTRY_BYTES <= used {
-                    return Step::Fault(refusal::TABLE);
-                }
-                let spot = Spot {
-                    parent: p.parent,
-                    used,
-                    levels: p.levels,
-                };
-                match parse_clx_value(d, base, table, n, v, spot) {
-                    Step::Fault(f) => return Step::Fault(f),
-                    Step::Next(next, u) => {
-                        at = next;
-                        used = u;
-                    }
-                }
-            }
+    for done in 0..count {
+        let Some((n, v)) = read_head(d, at)? else {
+            return Ok((at, used));
+        };
+        if table.len() / ENTRY_BYTES <= used {
+            return Err(Refusal::Table);
         }
-        left -= 1;
+        let spot = Spot {
+            parent: p.parent,
+            used,
+            levels: p.levels,
+        };
+        (at, used) = parse_clx_value(d, base, table, n, v, spot)?;
     }
-    Step::Next(at, used)
+    Ok((at, used))
 }
 
-// The value of the record n, at the cursor, and the record's entry.
+// The value of the record n, at the cursor, and the record's entry: the cursor after it, and the entries in use by then.
 #[cycle(parse_clx_records_parse_clx_value)]
-fn parse_clx_value(d: &[u8], base: u64, table: &mut [u8], n: Name, c: Cursor, p: Spot) -> Step
+fn parse_clx_value(
+    d: &[u8],
+    base: u64,
+    table: &mut [u8],
+    n: Name,
+    c: Cursor,
+    p: Spot,
+) -> Result<(Cursor, usize), Refusal>
     requires { Headed d.now n c × (base + length d.now < 2 ^ 64) × (p.used < room_in (length table.old)) }
     ensures { Ran table.old table.new c.end p.used (value_at d.now base n c p) result }
 {
     let used = p.used;
     let kind = n.kind;
-    if kind == clx_type::LEVEL {
-        match c.read_level(d, n.start) {
-            Level::Unfit(f) => Step::Fault(f),
-            Level::Inner(count, kids, after) => {
-                let levels = p.levels;
-                if levels == 0 {
-                    return Step::Fault(refusal::DEEP);
-                }
-                put_entry(
-                    table,
-                    used,
-                    entry_of(base, p.parent, n, kids.at, kids.end - kids.at),
-                );
-                let spot = Spot {
-                    parent: used as u64 + 1,
-                    used: used + 1,
-                    levels: levels - 1,
-                };
-                match parse_clx_records(d, base, table, kids, count, spot) {
-                    Step::Fault(f) => Step::Fault(f),
-                    Step::Next(_, u) => end_level(after, count, u),
-                }
-            }
-        }
-    } else {
-        match c.read_leaf(d, kind) {
-            Leaf::Wrong(f) => Step::Fault(f),
-            Leaf::Value(at, size, next) => {
-                put_entry(table, used, entry_of(base, p.parent, n, at, size));
-                Step::Next(next, used + 1)
-            }
-        }
+    if kind != clx_type::LEVEL {
+        let leaf = c.read_leaf(d, kind)?;
+        put_entry(table, used, entry_of(base, p.parent, n, leaf.at, leaf.size));
+        return Ok((leaf.next, used + 1));
     }
+    let level = c.read_level(d, n.start)?;
+    let levels = p.levels;
+    if levels == 0 {
+        return Err(Refusal::Deep);
+    }
+    let kids = level.inner;
+    put_entry(
+        table,
+        used,
+        entry_of(base, p.parent, n, kids.at, kids.end - kids.at),
+    );
+    let spot = Spot {
+        parent: used as u64 + 1,
+        used: used + 1,
+        levels: levels - 1,
+    };
+    let (_, u) = parse_clx_records(d, base, table, kids, level.count, spot)?;
+    end_level(level.after, level.count, u)
 }
 
-// The tree in `data`, a part of a file that begins at `base`. Its entries go to the front of the table; what is behind them, and where the tree is
-// refused all of it, is for the caller to clear.
-pub fn parse_clx_variant(data: &[u8], base: u64, table: &mut [u8]) -> Parsed
+// The tree in `data`, a part of a file that begins at `base`: how many entries it has. They go to the front of the table; what is behind them, and
+// where the tree is refused all of it, is for the caller to clear.
+pub fn parse_clx_variant(data: &[u8], base: u64, table: &mut [u8]) -> Result<usize, Refusal>
     requires { base + length «data».now < 2 ^ 64 }
     ensures answer { parsed_in table.new result ≡ tree_into «data».now base (length table.old) }
     ensures front { Front table.new (tree_into «data».now base (length table.old)) }
@@ -195,8 +166,6 @@ pub fn parse_clx_variant(data: &[u8], base: u64, table: &mut [u8]) -> Parsed
         used: 0,
         levels: MAX_CLX_DEPTH,
     };
-    match parse_clx_records(data, base, table, Cursor { at: 0, end }, 1, spot) {
-        Step::Next(_, used) => Parsed::Entries(used),
-        Step::Fault(f) => Parsed::Refused(f),
-    }
+    let (_, used) = parse_clx_records(data, base, table, Cursor { at: 0, end }, 1, spot)?;
+    Ok(used)
 }

@@ -1,4 +1,4 @@
-use Prim.Native.Nat.{◌+◌, ◌*◌}
+use Prim.Native.Nat.{◌+◌, ◌-◌, ◌*◌}
 use Rattle.tree.proofs.Runs.{Turned}
 use Rattle.tree.proofs.+parse_clx_records_parse_clx_value.Given as goal
 
@@ -8,8 +8,6 @@ decreases-parse_clx_records l = 2 * l.p.levels + 1
 abbrev pub decreases-parse_clx_value : goal.decreases-parse_clx_value
 decreases-parse_clx_value l = 2 * l.p.levels
 
-abbrev pub invariant-parse_clx_records-loop-left : goal.invariant-parse_clx_records-loop-left
-invariant-parse_clx_records-loop-left l = Turned l.d l.base l.p l.initial.table l.initial.at l.initial.used l.initial.left l.table l.at l.used l.left
-
-abbrev pub decreases-parse_clx_records-loop-left : goal.decreases-parse_clx_records-loop-left
-decreases-parse_clx_records-loop-left l = l.left
+abbrev pub invariant-parse_clx_records-loop-done : goal.invariant-parse_clx_records-loop-done
+invariant-parse_clx_records-loop-done l =
+    Turned l.d l.base l.p l.initial.table l.initial.at l.initial.used l.count l.table l.at l.used (l.count - l.done)

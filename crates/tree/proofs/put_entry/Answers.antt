@@ -6,6 +6,6 @@ use Rattle.tree.proofs.put_entry.Goals as goal
 
 pub returns : goal.returns
 returns c = (
-  rw (c.put8-6.ensures, c.put8-5.ensures, c.put8-4.ensures, c.put8-3.ensures, c.put8-2.ensures, c.put8.ensures) (sym (sets_entry _ _ _)),
+  rw (c.put-6.ensures, c.put-5.ensures, c.put-4.ensures, c.put-3.ensures, c.put-2.ensures, c.put.ensures) (sym (sets_entry _ _ _)),
   (omega (arith, c)),
 )
