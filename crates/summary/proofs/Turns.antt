@@ -1,24 +1,29 @@
--- What one loop more makes of a run of loops: from the first on, and from the last back. Assumes nothing.
+-- What one loop more makes of a run of loops, from the first on. Assumes nothing.
 use Prim.Native.Nat.{ℕ, zero, suc, ◌+◌, ◌-◌, ◌*◌, ◌/◌, ◌^◌, ◌≤◌, ◌<◌}
-use mathlib.Core.Path.{◌≡◌, refl, sym}
-use mathlib.Core.Bool.{true, false, ◌||◌}
+use mathlib.Core.Path.{◌≡◌, refl, sym, ap, ◌∙◌}
+use mathlib.Core.Bool.{Bool, true, false, ◌||◌}
 use mathlib.Core.List.{List, [], ◌∷◌}
-use native.Mathlib.Nat.{mul-le-mul, pow-suc, pow-le-pow_right, suc-mul, mod-one}
+use native.Mathlib.Nat.{mul_assoc, mul-pos, le-mul_of_pos_right, mul-le-mul, pow-suc, pow-le-pow_right, suc-mul, mod-one}
 use native.Mathlib.Numerals.{add-one}
 use native.Mathlib.Omega.{arith}
 use lib.Dec.{eqb, ltb}
-use lib.ListN.{length, drop, length-drop, drop_of_length-le}
-use Rattle.format.proofs.Frames.Places.{Below, one}
-use Rattle.format.proofs.Frames.Names.{frames_most}
+use lib.Seq.{drop-cons}
+use lib.ListN.{length, take, drop, get_or, drop_of_length-le}
+use denote.Enum.Bare.{sameb}
+use Rattle.std.proofs.lemmas.List.{take_rest}
+use Rattle.std.specs.List.{list_any}
 use Rattle.format.specs.Loops.{most_count, same_axis, has_axis}
 use Rattle.format.specs.Frames.{count_of, index_of, seq_from, frames, index_at}
-use Rattle.format.specs.Summary.{bad_loops}
-use Rattle.format.specs.Grammar.Loops.{Counted}
-use Rattle.format.specs.Grammar.Loops.{cons}
+use Rattle.format.specs.Summary.{no_loop, bad_loops}
+use Rattle.format.specs.Grammar.Loops.{Counted, Distinct, cons}
+use Rattle.format.specs.Refused.Plane.{Within}
 use Rattle.format.specs.declared.Axis.{Axis}
+use Rattle.format.specs.declared.Axis.TheVariants.{T, Z, P}
+use Rattle.format.specs.contracts.Axis.{the_type}
 use Rattle.format.specs.declared.Loop.{Loop}
+use Rattle.format.proofs.Frames.Places.{Below, one, index, within_below}
+use Rattle.format.proofs.Frames.Names.{frames_most}
 use Rattle.summary.specs.Pacing.{Paced}
-use Rattle.summary.specs.declared.Pace.{Pace}
 
 -- where all have come, none is left
 pub past : (i : ℕ) (ls : List Loop) → length ls ≤ i → drop i ls ≡ []
@@ -30,38 +35,48 @@ counted_drop zero ls c = c
 counted_drop (suc i) [] c = c
 counted_drop (suc i) (l ∷ ls) (cons h k c) = counted_drop i ls c
 
-pub below_drop : (f : Axis → ℕ) (i : ℕ) (ls : List Loop) → Below f ls → Below f (drop i ls)
+below_drop : (f : Axis → ℕ) (i : ℕ) (ls : List Loop) → Below f ls → Below f (drop i ls)
 below_drop f zero ls b = b
 below_drop f (suc i) [] b = b
 below_drop f (suc i) (l ∷ ls) (one h b) = below_drop f i ls b
 
 -- a number below 1,000,000^i, with one loop more
-pub grows : (n i count index : ℕ) → n < most_count ^ i → i < 3 → count ≤ most_count → index < count
+grows : (n i count index : ℕ) → n < most_count ^ i → i < 3 → count ≤ most_count → index < count
     → (n * count + index < most_count ^ (i + 1)) × (most_count ^ (i + 1) ≤ most_count ^ 3)
 grows n i count index h hi hc hx =
     let k : i + 1 ≤ 3 = omega arith in
     let top : most_count ^ (i + 1) ≤ most_count ^ 3 = pow-le-pow_right (omega arith) k in
     (rw (add-one, pow-suc) (omega (arith, mul-le-mul h hc, suc-mul n count)), top)
 
+-- the derived equality of axes is that of their numbers
+axes_same : (a b : Axis) {r : Bool} → r ≡ sameb the_type a b → same_axis a b ≡ r
+axes_same T T e = sym e
+axes_same T Z e = sym e
+axes_same T P e = sym e
+axes_same Z T e = sym e
+axes_same Z Z e = sym e
+axes_same Z P e = sym e
+axes_same P T e = sym e
+axes_same P Z e = sym e
+axes_same P P e = sym e
+
+-- whether a loop runs over an axis, as a chain of iterators says it
+has_any : (a : Axis) (ls : List Loop) → has_axis a ls ≡ list_any (λ l. same_axis l.axis a) ls
+unfolding has_axis
+has_any a [] = refl
+has_any a (l ∷ ls) = rw (has_any a ls) refl
+
+-- the same of the loops from number k on
+pub has_later : (a : Axis) (ls : List Loop) (k : ℕ) {r : Bool} → r ≡ list_any (λ l. same_axis l.axis a) (take (length ls - k) (drop k ls))
+    → r ≡ has_axis a (drop k ls)
+has_later a ls k e = rw take_rest at e ∙ sym (has_any a (drop k ls))
+
+-- the loops from number i on
+pub at : (ls : List Loop) (i : ℕ) → i < length ls → drop i ls ≡ get_or ls i no_loop ∷ drop (i + 1) ls
+at ls i h = rw add-one (drop-cons ls i no_loop h)
+
 -- xs are the loop l and the others, ls
 module _ {xs ls : List Loop} {l : Loop} (e : xs ≡ l ∷ ls) where
-  module _ (a : Axis) where
-    pub has_here : same_axis l.axis a ≡ true → has_axis a xs ≡ true
-    unfolding has_axis
-    has_here q = rw (e, q) refl
-
-    pub has_on : same_axis l.axis a ≡ false → has_axis a xs ≡ has_axis a ls
-    unfolding has_axis
-    has_on q = rw (e, q) refl
-
-    pub count_here : same_axis l.axis a ≡ true → count_of a xs ≡ l.count
-    unfolding count_of
-    count_here q = rw (e, q) refl
-
-    pub count_on : same_axis l.axis a ≡ false → count_of a xs ≡ count_of a ls
-    unfolding count_of
-    count_on q = rw (e, q) refl
-
   pub counted_first : Counted xs → (0 < l.count) × (l.count ≤ most_count) × Counted ls
   counted_first c = go (rw e at c)
     where
@@ -74,13 +89,9 @@ module _ {xs ls : List Loop} {l : Loop} (e : xs ≡ l ∷ ls) where
       go : Below f (l ∷ ls) → f l.axis < l.count
       go (one h b) = h
 
-  pub bad_here : (eqb l.count 0 || ltb most_count l.count || has_axis l.axis ls) ≡ true → bad_loops xs ≡ true
+  pub first_bad : bad_loops xs ≡ (eqb l.count 0 || ltb most_count l.count || has_axis l.axis ls || bad_loops ls)
   unfolding bad_loops
-  bad_here q = rw (e, q) refl
-
-  pub bad_on : (eqb l.count 0 || ltb most_count l.count || has_axis l.axis ls) ≡ false → bad_loops xs ≡ bad_loops ls
-  unfolding bad_loops
-  bad_on q = rw (e, q) refl
+  first_bad = rw e refl
 
   pub seq_on : (n scene t z : ℕ) → seq_from n xs scene t z ≡ seq_from (n * l.count + index_of l.axis scene t z) ls scene t z
   unfolding seq_from
@@ -90,31 +101,69 @@ module _ {xs ls : List Loop} {l : Loop} (e : xs ≡ l ∷ ls) where
   unfolding frames
   frames_on = rw e refl
 
--- the pace of an axis: no loop has it, the first has it, or another one
-pub paced_none : (a : Axis) {p : Pace} → p.stay ≡ 1 → p.count ≡ 1 → Paced p a []
+-- counted loops make some frames
+pub frames_some : (ls : List Loop) → Counted ls → 0 < frames ls
+unfolding frames
+frames_some [] c = omega arith
+frames_some (l ∷ ls) (cons h k c) = mul-pos h (frames_some ls c)
+
+-- n frames so far, with those of the loop at i
+pub frames_turn : (ls : List Loop) (i : ℕ) → i < length ls → Counted ls → length ls ≤ 3 → (n : ℕ) → n * frames (drop i ls) ≡ frames ls
+    → let m = n * (get_or ls i no_loop).count in (m * frames (drop (i + 1) ls) ≡ frames ls) × (m ≤ most_count ^ 3)
+frames_turn ls i h c k n e =
+    let l = get_or ls i no_loop in
+    let rest = frames (drop (i + 1) ls) in
+    let p : n * l.count * rest ≡ frames ls = mul_assoc n l.count rest ∙ (ap (λ (x : ℕ). n * x) (sym (frames_on (at ls i h))) ∙ e) in
+    (p, omega (arith, le-mul_of_pos_right (n * l.count) (frames_some (drop (i + 1) ls) (counted_drop (i + 1) ls c)), frames_most ls c k))
+
+-- the pace of an axis: no loop has it, or that at i has it
+pub paced_none : (a : Axis) (ls : List Loop) → ((n : ℕ) → 0 ≡ index_at a n ls) → Paced (record { stay = 1; count = 1 }) a ls
+paced_none a ls e = record { stays = omega arith; some = omega arith; index = λ n. sym (e n) ∙ sym (mod-one (n / 1)) }
+
+pub paced_at : (a : Axis) (ls : List Loop) (i : ℕ) → i < length ls → Counted ls → true ≡ sameb the_type (get_or ls i no_loop).axis a
+    → ((n : ℕ) → index_at a n (drop i ls) ≡ index_at a n ls)
+    → Paced (record { stay = frames (drop (i + 1) ls); count = (get_or ls i no_loop).count }) a ls
 unfolding index_at
-paced_none a e f = record { stays = omega arith; some = omega arith; index = λ n. rw (e, f) (sym (mod-one (n / 1))) }
+paced_at a ls i h c q e =
+    let l = get_or ls i no_loop in
+    let s = axes_same l.axis a q in
+    record {
+      stays = frames_some (drop (i + 1) ls) (counted_drop (i + 1) ls c);
+      some = (counted_first (at ls i h) (counted_drop i ls c)).0;
+      index = λ n. sym (e n) ∙ rw (at ls i h, s) refl;
+    }
 
-module _ (a : Axis) (l : Loop) (ls : List Loop) where
-  pub paced_here : same_axis l.axis a ≡ true → {p : Pace} → p.stay ≡ frames ls → p.count ≡ l.count → 0 < p.stay → 0 < p.count → Paced p a (l ∷ ls)
+-- the loop at i runs over the axis, or not
+module _ (a : Axis) (ls : List Loop) (i : ℕ) (h : i < length ls) where
+  pub count_at : true ≡ sameb the_type (get_or ls i no_loop).axis a → count_of a (drop i ls) ≡ (get_or ls i no_loop).count
+  unfolding count_of
+  count_at q = let s = axes_same (get_or ls i no_loop).axis a q in rw (at ls i h, s) refl
+
+  pub count_on : false ≡ sameb the_type (get_or ls i no_loop).axis a → count_of a (drop (i + 1) ls) ≡ count_of a (drop i ls)
+  unfolding count_of
+  count_on q = let s = axes_same (get_or ls i no_loop).axis a q in rw (at ls i h, s) refl
+
+  pub index_on : false ≡ sameb the_type (get_or ls i no_loop).axis a → (n : ℕ) → index_at a n (drop (i + 1) ls) ≡ index_at a n (drop i ls)
   unfolding index_at
-  paced_here q e f h k = record { stays = h; some = k; index = λ n. rw (q, e, f) refl }
+  index_on q n = let s = axes_same (get_or ls i no_loop).axis a q in rw (at ls i h, s) refl
 
-  pub paced_on : same_axis l.axis a ≡ false → {p : Pace} → Paced p a ls → Paced p a (l ∷ ls)
-  unfolding index_at
-  paced_on q p = record { stays = p.stays; some = p.some; index = λ n. rw q (p.index n) }
+-- n, the number so far, with the loop at i
+abbrev pub next : List Loop → ℕ → ℕ → ℕ → ℕ → ℕ → ℕ
+next ls i scene t z n = let l = get_or ls i no_loop in n * l.count + index_of l.axis scene t z
 
--- one loop back: l is the loop before those from number i on
-module _ (i : ℕ) (ls : List Loop) {l : Loop} (some : 0 < i) (e : drop (i - 1) ls ≡ l ∷ drop (i - 1 + 1) ls) where
-  pub back : drop (i - 1) ls ≡ l ∷ drop i ls
-  back = let k : i - 1 + 1 ≡ i = omega arith in rw k at e
+-- it is below a bound that fits in 64 bits, and comes to the same with the loops that are left
+pub record Turn (ls : List Loop) (i scene t z n : ℕ) : Type 0 where
+  pub below : next ls i scene t z n < most_count ^ (i + 1)
+  pub bound : most_count ^ (i + 1) ≤ most_count ^ 3
+  pub same : seq_from (next ls i scene t z n) (drop (i + 1) ls) scene t z ≡ seq_from n (drop i ls) scene t z
 
-  -- the frames so far, which three loops keep below 2^64
-  pub frames_back : Counted ls → length ls ≤ 3 → {n : ℕ} → n ≡ frames (drop i ls) → (l.count * n ≡ frames (drop (i - 1) ls)) × (l.count * n ≤ most_count ^ 3)
-  frames_back c h {n} q =
-      let p : l.count * n ≡ frames (drop (i - 1) ls) = rw q (sym (frames_on back)) in
-      let m = frames_most (drop (i - 1) ls) (counted_drop (i - 1) ls c) (simp length-drop (omega arith)) in
-      (p, omega arith)
-
-  pub count_some : Counted ls → 0 < l.count
-  count_some c = (counted_first back (counted_drop (i - 1) ls c)).0
+pub seq_turn : (ls : List Loop) (i : ℕ) → i < length ls → length ls ≤ 3 → Counted ls → (scene t z : ℕ) → Within ls scene t z → Distinct ls
+    → (n : ℕ) → n < most_count ^ i → Turn ls i scene t z n
+seq_turn ls i h three c scene t z within distinct n q =
+    let f = index scene t z in
+    let e = at ls i h in
+    let l = get_or ls i no_loop in
+    let counted = counted_first e (counted_drop i ls c) in
+    let below = below_first e f (below_drop f i ls (within_below ls scene t z distinct within)) in
+    let g = grows n i l.count (f l.axis) q (omega arith) counted.1 below in
+    record { below = g.0; bound = g.1; same = sym (seq_on e n scene t z) }

@@ -1,41 +1,19 @@
 -- `count_of`: the loops that have come do not run over the axis.
-use mathlib.Core.Path.{refl, sym, ◌∙◌}
-use native.Mathlib.Omega.{arith}
+use Rattle.std.proofs.Common.{sym, ◌∙◌}
 use Rattle.format.specs.Frames.{count_of}
-use Rattle.format.specs.Summary.{loops_of}
-use Rattle.summary.proofs.Turns.{past, count_here, count_on}
+use Rattle.summary.proofs.Turns.{past, count_at, count_on}
 use Rattle.summary.proofs.count_of.Goals as goal
 
-pub used-n-requires : goal.used-n-requires
-used-n-requires c = tt
+pub returns-then-eq : goal.returns-then-eq
+returns-then-eq c =
+    let e = count_at c.args.a c.used-l-items.result.now c.loop-l.l-index c.loop-l-test.true c.if-eq.ensures in
+    rw (← c.used-l-items.ensures.0) (sym e ∙ c.loop-l.invariant)
 
-pub loop-i-init : goal.loop-i-init
-loop-i-init c = refl
-
-pub loop_at-l-requires : goal.loop_at-l-requires
-loop_at-l-requires c = omega arith
-
-pub runs_over-requires : goal.runs_over-requires
-runs_over-requires c = tt
-
-pub returns-then-runs_over : goal.returns-then-runs_over
-returns-then-runs_over c =
-    sym (count_here c.loop_at-l.ensures _ (sym c.runs_over.ensures ∙ c.if-runs_over.true)) ∙ c.loop-i.invariant
-
-pub overflow_add-i : goal.overflow_add-i
-overflow_add-i c = omega arith
-
-pub loop-i-smaller : goal.loop-i-smaller
-loop-i-smaller c = omega arith
-
-pub loop-i-preserved : goal.loop-i-preserved
-loop-i-preserved c =
-    sym (count_on c.loop_at-l.ensures _ (sym c.runs_over.ensures ∙ c.if-runs_over.false)) ∙ c.loop-i.invariant
+pub loop-l-preserved : goal.loop-l-preserved
+loop-l-preserved c = count_on c.args.a c.used-l-items.result.now c.loop-l.l-index c.loop-l-test.true c.if-eq.ensures ∙ c.loop-l.invariant
 
 pub returns : goal.returns
 unfolding count_of
 returns c =
-    let l = c.loop-i in
-    let u = c.args.u in
-    let e = past l.i (loops_of u) (omega arith) in
-    rw e at l.invariant
+    let e = past c.loop-l.l-index c.used-l-items.result.now c.loop-l-test.false in
+    rw (← c.used-l-items.ensures.0) (rw e at c.loop-l.invariant)

@@ -1,15 +1,6 @@
-use Prim.Native.Nat.{◌≤◌, ◌<◌}
-use mathlib.Core.Path.{◌≡◌}
-use lib.ListN.{length, drop}
-use Rattle.format.specs.Frames.{frames}
-use Rattle.format.specs.Summary.{loops_of}
-use Rattle.summary.specs.Pacing.{Paced}
+use Rattle.std.proofs.Common.{◌≡◌, ℕ, drop}
+use Rattle.format.specs.Frames.{index_at}
 use Rattle.summary.proofs.pace_of.Given as goal
 
 abbrev pub invariant-loop-i : goal.invariant-loop-i
-invariant-loop-i l =
-    (l.i ≤ length (loops_of l.u)) × (length (loops_of l.u) ≤ 3) × (l.f ≡ frames (drop l.i (loops_of l.u))) × (0 < l.f)
-    × Paced l.pace l.a (drop l.i (loops_of l.u))
-
-abbrev pub decreases-loop-i : goal.decreases-loop-i
-decreases-loop-i l = l.i
+invariant-loop-i l = (n : ℕ) → index_at l.a n (drop l.i l.loops) ≡ index_at l.a n l.loops

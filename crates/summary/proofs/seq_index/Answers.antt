@@ -1,61 +1,34 @@
 -- `seq_index`: the number so far, with the loops that are left, comes to the whole, and is below 1,000,000^i.
-use Prim.Native.Nat.{◌+◌, ◌*◌, ◌^◌, ◌≤◌, ◌<◌}
-use mathlib.Core.Path.{refl, sym, ◌∙◌}
-use native.Mathlib.Omega.{arith}
-use Rattle.format.specs.Loops.{most_count}
-use Rattle.format.specs.Frames.{index_of, seq_from, seq_index}
-use Rattle.format.specs.Summary.{loops_of}
-use Rattle.format.proofs.Frames.Places.{index, within_below}
-use Rattle.summary.proofs.Turns.{past, counted_drop, below_drop, counted_first, below_first, grows, seq_on}
+use Rattle.std.proofs.Common.{refl, ◌∙◌, arith}
+use Rattle.format.specs.Frames.{seq_from, seq_index}
+use Rattle.summary.proofs.Turns.{past, Turn, seq_turn}
 use Rattle.summary.proofs.seq_index.Goals as goal
-use Rattle.summary.proofs.seq_index.Goals.{After-loop_at-l}
+use Rattle.summary.proofs.seq_index.Goals.{In-loop-l}
 
-pub used-m-requires : goal.used-m-requires
-used-m-requires c = tt
-
-pub loop-i-init : goal.loop-i-init
+pub loop-l-init : goal.loop-l-init
 unfolding seq_index
-loop-i-init c = (omega arith, refl)
+loop-l-init c = (omega arith, refl)
 
-pub loop_at-l-requires : goal.loop_at-l-requires
-loop_at-l-requires c = omega arith
-
--- in a turn, what the loop at i makes of the number
-next : (c : After-loop_at-l) → let l = c.loop_at-l.result in let a = c.args in
-    (c.loop-i.n * l.count + index_of l.axis a.scene a.t a.z < most_count ^ (c.loop-i.i + 1)) × (most_count ^ (c.loop-i.i + 1) ≤ most_count ^ 3)
-next c =
-    let c = c in
-    let l = c.loop_at-l.result in
-    let a = c.args in
-    let p = c.requires in
-    let ls = loops_of a.u in
-    let f = index a.scene a.t a.z in
-    let counted = counted_first c.loop_at-l.ensures (counted_drop c.loop-i.i ls p.0) in
-    let below = below_first c.loop_at-l.ensures f (below_drop f c.loop-i.i ls (within_below ls a.scene a.t a.z p.1 p.2)) in
-    grows c.loop-i.n c.loop-i.i l.count (f l.axis) c.loop-i.invariant.0 (omega arith) counted.1 below
+-- the turn
+turn : (c : In-loop-l) → Turn c.used-l-items.result.now c.loop-l.l-index c.args.scene c.args.t c.args.z c.loop-l.n
+turn c =
+    let u = c.used-l-items in
+    let p = rw (← u.ensures.0) at c.requires in
+    seq_turn u.result.now c.loop-l.l-index c.loop-l-test.true u.ensures.1 p.0 c.args.scene c.args.t c.args.z p.2 p.1 c.loop-l.n c.loop-l.invariant.0
 
 pub overflow_mul-n : goal.overflow_mul-n
-overflow_mul-n c = omega (arith, next (goal.at.overflow_mul-n c).After-loop_at-l)
-
-pub index_of-requires : goal.index_of-requires
-index_of-requires c = tt
+overflow_mul-n c = omega (arith, turn (goal.at.overflow_mul-n c).In-loop-l)
 
 pub overflow_add-n : goal.overflow_add-n
-overflow_add-n c = omega (arith, next (goal.at.overflow_add-n c).After-loop_at-l, c.index_of.ensures)
+overflow_add-n c = omega (arith, turn (goal.at.overflow_add-n c).In-loop-l, c.index_of.ensures)
 
-pub overflow_add-i : goal.overflow_add-i
-overflow_add-i c = omega arith
-
-pub loop-i-smaller : goal.loop-i-smaller
-loop-i-smaller c = omega arith
-
-pub loop-i-preserved : goal.loop-i-preserved
-loop-i-preserved c =
-    rw c.index_of.ensures ((next (goal.at.loop-i-preserved c).After-loop_at-l).0, sym (seq_on c.loop_at-l.ensures _ _ _ _) ∙ c.loop-i.invariant.1)
+pub loop-l-preserved : goal.loop-l-preserved
+loop-l-preserved c =
+    let t = turn (goal.at.loop-l-preserved c).In-loop-l in rw c.index_of.ensures (t.below, t.same ∙ c.loop-l.invariant.1)
 
 pub returns : goal.returns
 unfolding seq_from
 returns c =
-    let l = c.loop-i in
-    let e = past l.i (loops_of c.args.u) (omega arith) in
-    rw e at l.invariant.1
+    let u = c.used-l-items in
+    let e = past c.loop-l.l-index u.result.now c.loop-l-test.false in
+    rw (← u.ensures.0) (rw e at c.loop-l.invariant.1)
