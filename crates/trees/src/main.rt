@@ -3,27 +3,21 @@
 
 ghost use Rattle.std.specs.Prelude.{◌+◌, ◌*◌, ◌^◌, ◌≤◌, ◌<◌, length};
 
-use cursor::{le8, put4, put8};
+use cursor::{le, put};
 use std::io;
 use std::io::Write;
-use tree::{ENTRY_BYTES, Parsed, parse_clx_variant};
-
-// A number after a space.
-fn show_next(out: &mut impl Write, n: u64) -> io::Result<()> {
-    write!(out, " {n}")
-}
+use tree::{ENTRY_BYTES, parse_clx_variant};
 
 // The numbers of the entry at `at`, on a line.
 fn show_entry(out: &mut impl Write, table: &[u8], at: usize) -> io::Result<()>
     requires { at + 48 ≤ length table.now }
 {
-    let first = le8(table, at);
+    let first = le::<8>(table, at);
     write!(out, "{first}")?;
-    show_next(out, le8(table, at + 8))?;
-    show_next(out, le8(table, at + 16))?;
-    show_next(out, le8(table, at + 24))?;
-    show_next(out, le8(table, at + 32))?;
-    show_next(out, le8(table, at + 40))?;
+    for i in 1..6 {
+        let next = le::<8>(table, at + 8 * i);
+        write!(out, " {next}")?;
+    }
     out.write_all(b"\n")
 }
 
@@ -31,10 +25,8 @@ fn show_entry(out: &mut impl Write, table: &[u8], at: usize) -> io::Result<()>
 fn show_entries(out: &mut impl Write, table: &[u8], n: usize) -> io::Result<()>
     requires { 48 * n ≤ length table.now }
 {
-    let mut i = 0;
-    while i < n {
+    for i in 0..n {
         show_entry(out, table, ENTRY_BYTES * i)?;
-        i += 1;
     }
     Ok(())
 }
@@ -52,11 +44,11 @@ fn show_in(
     out.write_all(name)?;
     out.write_all(b": ")?;
     match parse_clx_variant(bytes, base, table) {
-        Parsed::Entries(n) => {
+        Ok(n) => {
             out.write_all(b"0\n")?;
             show_entries(out, table, n)
         }
-        Parsed::Refused(f) => writeln!(out, "{f}"),
+        Err(e) => writeln!(out, "{}", e.number()),
     }
 }
 
@@ -69,7 +61,7 @@ fn show(out: &mut impl Write, name: &[u8], bytes: &[u8], base: u32, size: usize)
         return Ok(());
     }
     let mut table = [0u8; 4096];
-    show_in(out, name, bytes, base as u64, &mut table[..size])
+    show_in(out, name, bytes, u64::from(base), &mut table[..size])
 }
 
 // The document's own edges.
@@ -315,20 +307,18 @@ fn tables(out: &mut impl Write) -> io::Result<()> {
 fn put_header(buf: &mut [u8], at: usize, len: u64)
     requires { at + 14 ≤ length buf.old }
 {
-    put8(buf, at, 65547);
-    put8(buf, at + 6, len);
+    put::<8>(buf, at, 65547);
+    put::<8>(buf, at + 6, len);
 }
 
 // Levels one in another, and a flag in the last: 22 bytes for each, and 3.
 fn nest(buf: &mut [u8], levels: usize)
     requires { (22 * levels + 3 ≤ length buf.old) × (0 < levels) × (levels < 100) }
 {
-    let mut i = 0;
-    while i < levels {
+    for i in 0..levels {
         put_header(buf, 14 * i, 22 * (levels - i) as u64 - 5);
-        i += 1;
     }
-    put4(buf, 14 * levels, 65537);
+    put::<4>(buf, 14 * levels, 65537);
 }
 
 // As deep as levels may stand, and one deeper.

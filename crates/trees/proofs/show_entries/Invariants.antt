@@ -1,9 +1,0 @@
--- `trees::show_entries` stays within the table.
-use Prim.Native.Nat.{◌≤◌, ◌-◌}
-use Rattle.trees.proofs.show_entries.Given as goal
-
-abbrev pub invariant-loop-i : goal.invariant-loop-i
-invariant-loop-i g l = l.i ≤ l.n
-
-abbrev pub decreases-loop-i : goal.decreases-loop-i
-decreases-loop-i g l = l.n - l.i
