@@ -1,7 +1,7 @@
 -- What the answers say, in document 01's terms.
 use Rattle.std.specs.Prelude.{ℕ, Bool, not, List}
 use Rattle.std.proofs.Math.Option.{Option}
-use Rattle.format.specs.Answer.{Answer, given, refused, refuse_if, and_then, or_refuse}
+use Rattle.format.specs.Answer.{Answer, given, refuse_if, and_then, or_refuse}
 use Rattle.format.specs.Refusals as why
 use Rattle.format.specs.Bytes.{ascii}
 use Rattle.format.specs.Values.{field, bind}
@@ -9,13 +9,7 @@ use Rattle.format.specs.Numbers.{unsigned, signed, below32}
 use Rattle.format.specs.Attributes.{bad_bits, bad_shape, uncompressed}
 use Rattle.format.specs.declared.Entry.{Entry}
 use Rattle.format.specs.declared.Attributes.{Attributes}
-use Rattle.attributes.specs.declared.Parsed.{Parsed}
-use Rattle.attributes.specs.declared.Parsed.TheVariants.{Is, Refused}
-
--- the attributes, or the refusal of that number
-abbrev pub answer : Parsed → Answer Attributes
-answer (Is a) = given a
-answer (Refused n) = refused n
+pub use Rattle.format.specs.Given.{answer}
 
 -- the five numbers: 11 where one is absent
 unfoldable pub five_of : Option ℕ → Option ℕ → Option ℕ → Option ℕ → Option ℕ → Answer Attributes

@@ -9,144 +9,115 @@ ghost use Rattle.lookup.specs.Table.{Holds, entries_in};
 ghost use Rattle.number.specs.Readings.{natural, integer};
 ghost use Rattle.attributes.specs.Parsed.{answer, five_of, judged_by, attributes_in};
 
-use format::{Attributes, refusal};
-use lookup::Found;
+use format::Attributes;
+use format::refusal::Refusal;
 use lookup::level::{get_i64, get_level, get_u64};
-use number::{Integer, Natural};
-
-// The attributes, or why they are refused.
-#[derive(Clone, Copy)]
-pub enum Parsed {
-    Is(Attributes),
-    Refused(u32),
-}
 
 // What eCompression says of frames that are not compressed.
-const COMPRESSION_NONE: u64 = 2;
+const COMPRESSION_NONE: i64 = 2;
 
 // Frames may have this many components.
 pub const MAX_COMPONENTS: u64 = 1024;
 
 // Whether x * y * z is over `most`, by division: the product may pass 64 bits.
+#[tactic(auto, using(crate::proofs::Products::by_division))]
 pub fn product_over(x: u64, y: u64, z: u64, most: u64) -> bool
     ensures { result ≡ ltb most (x * y * z) }
 {
-    if x == 0 {
-        return false;
-    }
-    if y == 0 {
-        return false;
-    }
-    most / x / y < z
+    x != 0 && y != 0 && most / x / y < z
 }
 
 // Bits that no sample has: others than 8, 16 and 32.
+#[tactic(auto, unfolding(format::specs::Attributes::bad_bits))]
 pub fn bad_bits(bits: u64) -> bool
     ensures { result ≡ bad_bits bits }
 {
-    !((bits == 8) | (bits == 16) | (bits == 32))
+    !matches!(bits, 8 | 16 | 32)
 }
 
 // A zero size, too many components, or a row that its bytes do not hold.
+#[tactic(auto, unfolding(format::specs::Attributes::bad_shape))]
 pub fn bad_shape(a: Attributes) -> bool
     ensures { result ≡ bad_shape a }
 {
-    if (a.width == 0) | (a.height == 0) | (a.components == 0) | (MAX_COMPONENTS < a.components) {
-        return true;
-    }
-    product_over(a.width, a.components, a.bits / 8, a.stride)
+    a.width == 0
+        || a.height == 0
+        || a.components == 0
+        || MAX_COMPONENTS < a.components
+        || product_over(a.width, a.components, a.bits / 8, a.stride)
 }
 
 // A plane of more than 2^64 - 1 bytes.
 pub fn bad_plane(a: Attributes) -> bool
     ensures { result ≡ ltb most64 (plane_bytes a) }
 {
-    product_over(a.width, a.height, a.bits / 8, 0xffff_ffff_ffff_ffff)
+    product_over(a.width, a.height, a.bits / 8, u64::MAX)
 }
 
 // ---- from the readings
 
 // A number that a u32 holds.
-fn to_u32(n: Natural) -> Natural
+#[tactic(auto, unfolding(format::specs::Numbers::below32))]
+fn to_u32(n: Option<u64>) -> Option<u64>
     ensures { natural result ≡ below32 (natural n) }
 {
-    match n {
-        Natural::Is(x) => {
-            if x < 0x1_0000_0000 {
-                Natural::Is(x)
-            } else {
-                Natural::Absent
-            }
-        }
-        Natural::Absent => Natural::Absent,
-    }
+    n.filter(|x| *x < 0x1_0000_0000)
 }
 
 // Whether the frames are not compressed.
-fn is_plain(compression: Integer) -> bool
+#[tactic(auto, unfolding(format::specs::Attributes::uncompressed))]
+fn is_plain(compression: Option<i64>) -> bool
     ensures { result ≡ uncompressed (integer compression) }
 {
-    match compression {
-        Integer::Is(n) => n == COMPRESSION_NONE,
-        Integer::Below(_) => false,
-        Integer::Absent => false,
-    }
+    compression == Some(COMPRESSION_NONE)
 }
 
 // The five numbers, all of which have to be there.
+#[tactic(auto, unfolding(crate::specs::Parsed::five_of, format::specs::Answer::and_then, format::specs::Answer::or_refuse))]
 fn five(
-    width: Natural,
-    stride: Natural,
-    height: Natural,
-    components: Natural,
-    bits: Natural,
-) -> Parsed
+    width: Option<u64>,
+    stride: Option<u64>,
+    height: Option<u64>,
+    components: Option<u64>,
+    bits: Option<u64>,
+) -> Result<Attributes, Refusal>
     ensures { answer result ≡ five_of (natural width) (natural stride) (natural height) (natural components) (natural bits) }
 {
-    let Natural::Is(width) = width else {
-        return Parsed::Refused(refusal::MISSING);
-    };
-    let Natural::Is(stride) = stride else {
-        return Parsed::Refused(refusal::MISSING);
-    };
-    let Natural::Is(height) = height else {
-        return Parsed::Refused(refusal::MISSING);
-    };
-    let Natural::Is(components) = components else {
-        return Parsed::Refused(refusal::MISSING);
-    };
-    let Natural::Is(bits) = bits else {
-        return Parsed::Refused(refusal::MISSING);
-    };
-    Parsed::Is(Attributes {
-        width,
-        stride,
-        height,
-        components,
-        bits,
+    Ok(Attributes {
+        width: width.ok_or(Refusal::Missing)?,
+        stride: stride.ok_or(Refusal::Missing)?,
+        height: height.ok_or(Refusal::Missing)?,
+        components: components.ok_or(Refusal::Missing)?,
+        bits: bits.ok_or(Refusal::Missing)?,
     })
 }
 
-// The attributes, or the number of the first of 12 to 14 that holds; `plain` says that there is no compression.
-fn judged(plain: bool, a: Attributes) -> Parsed
+// The attributes, or the first of 12 to 14 that holds; `plain` says that there is no compression.
+#[tactic(auto, unfolding(crate::specs::Parsed::judged_by, format::specs::Answer::refuse_if))]
+fn judged(plain: bool, a: Attributes) -> Result<Attributes, Refusal>
     ensures { answer result ≡ judged_by plain a }
 {
     if !plain {
-        return Parsed::Refused(refusal::COMPRESSION);
+        return Err(Refusal::Compression);
     }
     if bad_bits(a.bits) {
-        return Parsed::Refused(refusal::BITS);
+        return Err(Refusal::Bits);
     }
     if bad_shape(a) {
-        return Parsed::Refused(refusal::FRAME_SHAPE);
+        return Err(Refusal::FrameShape);
     }
-    Parsed::Is(a)
+    Ok(a)
 }
 
 // ---- from the tree
 
 // The attributes in a level.
-fn attributes_in(file: &[u8], table: &[u8], used: usize, parent: usize) -> Parsed
+fn attributes_in(
+    file: &[u8],
+    table: &[u8],
+    used: usize,
+    parent: usize,
+) -> Result<Attributes, Refusal>
     requires { Holds file.now table.now used × (parent ≤ used) }
     ensures { answer result ≡ attributes_in file.now (entries_in table.now used) parent }
 {
@@ -156,19 +127,15 @@ fn attributes_in(file: &[u8], table: &[u8], used: usize, parent: usize) -> Parse
     let components = get_u64(file, table, used, parent, b"uiComp");
     let bits = to_u32(get_u64(file, table, used, parent, b"uiBpcInMemory"));
     let plain = is_plain(get_i64(file, table, used, parent, b"eCompression"));
-    match five(width, stride, height, components, bits) {
-        Parsed::Refused(n) => Parsed::Refused(n),
-        Parsed::Is(a) => judged(plain, a),
-    }
+    let a = five(width, stride, height, components, bits)?;
+    judged(plain, a)
 }
 
 // The attributes of a tree that was read whole.
-pub fn parse_attributes(file: &[u8], table: &[u8], used: usize) -> Parsed
+pub fn parse_attributes(file: &[u8], table: &[u8], used: usize) -> Result<Attributes, Refusal>
     requires { Holds file.now table.now used }
     ensures { answer result ≡ attributes file.now (entries_in table.now used) }
 {
-    match get_level(file, table, used, 0, b"SLxImageAttributes") {
-        Found::Nothing => Parsed::Refused(refusal::MISSING),
-        Found::At(i) => attributes_in(file, table, used, i + 1),
-    }
+    let i = get_level(file, table, used, 0, b"SLxImageAttributes").ok_or(Refusal::Missing)?;
+    attributes_in(file, table, used, i + 1)
 }

@@ -1,5 +1,7 @@
 -- `attributes_in`: the six readings, and what is made of them.
 use mathlib.Core.Path.{◌≡◌, sym, ap, ◌∙◌}
+use borrow.Author.Rules.{rules}
+use Rattle.std.specs.Prelude.{Err}
 use Rattle.format.specs.Answer.{and_then}
 use Rattle.format.specs.Bytes.{ascii}
 use Rattle.format.specs.Numbers.{below32}
@@ -25,10 +27,12 @@ readings c =
     (c.to_u32-bits.ensures ∙ ap below32 c.get_u64.ensures)
     (c.is_plain-plain.ensures ∙ ap uncompressed c.get_i64.ensures) c.five.ensures
 
-pub returns-in-Refused : goal.returns-in-Refused
+pub returns-in_err-a : goal.returns-in_err-a
 unfolding and_then
-returns-in-Refused c = sym (rw c.in-Refused.is at (readings (goal.at.returns-in-Refused c).After-five))
+returns-in_err-a c =
+    let e : c.from_residual.result ≡ Err c.in_err-a.field-0.0 = search rules in
+    rw e (sym (rw c.in_err-a.was at (readings (goal.at.returns-in_err-a c).After-five)))
 
-pub returns-in-Is : goal.returns-in-Is
+pub returns : goal.returns
 unfolding and_then
-returns-in-Is c = c.judged.ensures ∙ sym (rw c.in-Is.is at (readings (goal.at.returns-in-Is c).After-five))
+returns c = c.judged.ensures ∙ sym (rw c.in_ok-a.was at (readings (goal.at.returns c).After-five))
