@@ -8,6 +8,7 @@ use native.Mathlib.Omega.{arith}
 use lib.ListN.{length, get_or, take, length-append}
 use lib.Seq.{sets, take-suc, take_all, length-take-le}
 use Rattle.format.proofs.Ground.Buffers.{over_stored}
+use Rattle.format.proofs.Ground.Bytes.{sets_append}
 use Rattle.format.specs.Bytes.{over, each}
 
 each_last : {A : Type 0} (f : A → List ℕ) (xs : List A) (x : A) → each f (xs ++ x ∷ []) ≡ each f xs ++ f x
@@ -25,6 +26,13 @@ module _ {A : Type 0} (f : A → List ℕ) (size : ℕ) (sized : (x : A) → len
   unfolding each
   each_length [] = sym (mul-zero size)
   each_length (x ∷ xs) = rw (length-append, sized, each_length xs, mul-suc) (add_comm size (size * length xs))
+
+  -- one more, from a place on
+  pub one_set : (xs b : List ℕ) (at k : ℕ) (x d : A) → (ys : List A) → k < length ys → x ≡ get_or ys k d → xs ≡ sets b at (each f (take k ys))
+      → sets xs (at + size * k) (f x) ≡ sets b at (each f (take (k + 1) ys))
+  one_set xs b at k x d ys h q e =
+      let l : length (each f (take k ys)) ≡ size * k = rw (each_length (take k ys), length-take-le k ys (omega arith)) in
+      rw (e, q, add-one, take-suc ys k d h, each_last, sets_append (each f (take k ys)) (f (get_or ys k d)) b at, l) refl
 
   -- one more: d is what lies behind the list's end
   pub next_stored : (xs : List A) (b₀ b : List ℕ) (k : ℕ) (x d : A) → b ≡ over (each f (take k xs)) b₀ → k < length xs → size * length xs ≤ length b₀

@@ -1,18 +1,18 @@
--- Bytes that are of the layout have its length, and a summary that was stored is read back. Assumes nothing.
-use Prim.Native.Nat.{ℕ, ◌+◌, ◌*◌, ◌^◌, ◌≤◌, ◌<◌}
-use mathlib.Core.Path.{◌≡◌, refl, sym, ◌∙◌}
+-- Bytes that are not of the layout, and a summary that was stored and is read back. Assumes nothing.
+use Prim.Native.Nat.{ℕ, zero, suc, ◌+◌, ◌*◌, ◌^◌, ◌≤◌, ◌<◌}
+use mathlib.Core.Path.{◌≡◌, refl, sym, ap, ◌∙◌}
 use mathlib.Core.Bool.{Bool, true, false, ◌&&◌, or-true}
-use mathlib.Core.Option.{none, some}
-use mathlib.Core.List.{List, [], ◌∷◌, ◌++◌}
+use mathlib.Core.Option.{some}
+use mathlib.Core.List.{List, [], ◌∷◌, ◌++◌, append-nil, append_assoc}
+use native.Mathlib.Nat.{add-zero, zero-add}
 use native.Mathlib.Omega.{arith}
 use lib.ListN.{length, get_or, length-append}
 use lib.Seq.{sets, length-sets}
 use lib.Dec.{eqb, ltb, lit<, lit≤}
 use lib.Ieee.{Float, binary32, of_bits, to_bits}
-use borrow.Author.Tests.{eqb-true, ltb-true, ltb-false}
 use Rattle.format.proofs.Ground.Buffers.{over_stored, over_all}
 use Rattle.format.proofs.Ground.Bytes.{le_stored, le_elsewhere, le_bytes_length, sets_append}
-use Rattle.format.proofs.Ground.Tests.{and_left}
+use Rattle.format.proofs.Ground.Tests.{and_none}
 use Rattle.format.specs.Bytes.{le_at, le_bytes, over, zeros, each}
 use Rattle.format.specs.Loops.{axis_number}
 use Rattle.format.specs.Summary.{no_loop}
@@ -25,17 +25,23 @@ use Rattle.layout.specs.Layout.{word, axis_from, loop_from, summary_in, axis_sai
 use Rattle.layout.specs.Layout.{words_of, single_bytes, summary_bytes, channel_bytes}
 use Rattle.layout.proofs.Each.{each_length}
 
-pub laid_length : (b : List ℕ) → of_layout b ≡ true → length b ≡ 144
+-- not each of the three places is unused or has an axis
+pub unsaid : (b : List ℕ) → (((i : ℕ) → i < 3 → axis_said b i ≡ true) → ⊥) → of_layout b ≡ false
 unfolding of_layout
-laid_length b e = eqb-true (length b) 144 (and_left (eqb (length b) 144) (axis_said b 0 && axis_said b 1 && axis_said b 2 && eqb (le_at 4 b 140) 0) e)
-
-pub said_some : (b : List ℕ) → of_layout b ≡ true → summary_from b ≡ some (summary_in b)
-unfolding summary_from
-said_some b e = rw e
-
-pub said_none : (b : List ℕ) → of_layout b ≡ false → summary_from b ≡ none
-unfolding summary_from
-said_none b e = rw e
+unsaid b h = go (axis_said b 0) (axis_said b 1) (axis_said b 2) refl refl refl
+  where
+    go : (x y z : Bool) → axis_said b 0 ≡ x → axis_said b 1 ≡ y → axis_said b 2 ≡ z
+        → (eqb (length b) 144 && (x && y && z && eqb (le_at 4 b 140) 0)) ≡ false
+    go false y z p q r = and_none _ _ refl
+    go true false z p q r = and_none _ _ refl
+    go true true false p q r = and_none _ _ refl
+    go true true true p q r = absurd (h each)
+      where
+        each : (i : ℕ) → i < 3 → axis_said b i ≡ true
+        each zero l = p
+        each (suc zero) l = q
+        each (suc (suc zero)) l = r
+        each (suc (suc (suc i))) l = absurd (omega arith)
 
 -- ---- stored
 
@@ -43,25 +49,24 @@ said_none b e = rw e
 before : (n k p q v : ℕ) (l : List ℕ) → q + n ≤ p → le_at n (sets l p (le_bytes k v)) q ≡ le_at n l q
 before n k p q v l h = le_elsewhere n (le_bytes k v) l p q λ j a b c d. omega arith
 
--- one word more
-pub next_word : (l w : List ℕ) (i v : ℕ) → 8 * i + 8 ≤ length l → v < 2 ^ 64 → v ≡ get_or w i 0 → ((k : ℕ) → k < i → word l k ≡ get_or w k 0)
-    → (k : ℕ) → k < i + 1 → word (sets l (8 * i) (le_bytes 8 v)) k ≡ get_or w k 0
-next_word l w i v h f e held k m = go (ltb k i) refl
-  where
-    go : (t : Bool) → ltb k i ≡ t → word (sets l (8 * i) (le_bytes 8 v)) k ≡ get_or w k 0
-    go true q = let d = ltb-true k i q in before 8 8 (8 * i) (8 * k) v l (omega arith) ∙ held k d
-    go false q =
-        let d = ltb-false k i q in
-        let q' : k ≡ i = omega arith in
-        rw q' (le_stored 8 l (8 * i) v h f ∙ e)
+-- words that are stored one after another are read back
+pub words_back : (w b : List ℕ) (at i : ℕ) → ((k : ℕ) → get_or w k 0 < 2 ^ 64) → at + 8 * length w ≤ length b → i < length w
+    → le_at 8 (sets b at (each (le_bytes 8) w)) (at + 8 * i) ≡ get_or w i 0
+unfolding each
+words_back [] b at i f room h = absurd (omega arith)
+words_back (v ∷ w) b at zero f room h =
+    rw (sets_append (le_bytes 8 v) (each (le_bytes 8) w) b at, le_bytes_length, add-zero)
+    (le_elsewhere 8 (each (le_bytes 8) w) (sets b at (le_bytes 8 v)) (at + 8) at (λ j x y z. omega arith) ∙ le_stored 8 b at v (omega arith) (f 0))
+words_back (v ∷ w) b at (suc i) f room h =
+    let e : at + 8 * suc i ≡ at + 8 + 8 * i = omega arith in
+    rw (sets_append (le_bytes 8 v) (each (le_bytes 8) w) b at, le_bytes_length, e)
+    (words_back w (sets b at (le_bytes 8 v)) (at + 8) i (λ k. f (suc k)) (rw (length-sets b at (le_bytes 8 v)) (omega arith)) (omega arith))
 
--- a channel's seven words, stored one after the other
-pub sets_channel : (t : List ℕ) (i : ℕ) (c : Channel)
-    → sets t i (channel_bytes c)
-    ≡ sets (sets (sets (sets (sets (sets (sets t i (le_bytes 8 c.named)) (i + 8) (le_bytes 8 c.name)) (i + 16) (le_bytes 8 c.units)) (i + 24)
-    (le_bytes 8 c.colored)) (i + 32) (le_bytes 8 c.red)) (i + 40) (le_bytes 8 c.green)) (i + 48) (le_bytes 8 c.blue)
-unfolding channel_bytes
-sets_channel t i c = simp (sets_append, length-append, le_bytes_length)
+-- a channel's words
+pub channel_words : (c : Channel)
+    → each (le_bytes 8) (c.named ∷ c.name ∷ c.units ∷ c.colored ∷ c.red ∷ c.green ∷ c.blue ∷ []) ≡ channel_bytes c
+unfolding each channel_bytes
+channel_words c = simp (append-nil, channel_bytes, append_assoc)
 
 -- ---- a summary
 
@@ -83,9 +88,9 @@ three (a ∷ b ∷ []) h = absurd (omega arith)
 three (a ∷ b ∷ c ∷ []) h = refl
 three (a ∷ b ∷ c ∷ d ∷ l) h = absurd (omega arith)
 
--- A summary's words are in b, and patterns of its three numbers in f32 follow.
-module _ (u : Summary) (b : List ℕ) (nx ny nz : ℕ) (long : length b ≡ 144) (full : length u.loops ≡ 3)
-    (words : (i : ℕ) → i < 16 → word b i ≡ get_or (words_of u) i 0)
+-- A summary's words are stored at the start of b₀, which is then b, and patterns of its three numbers in f32 follow.
+module _ (u : Summary) (b₀ b : List ℕ) (nx ny nz : ℕ) (long₀ : length b₀ ≡ 144) (full : length u.loops ≡ 3)
+    (small : (k : ℕ) → get_or (words_of u) k 0 < 2 ^ 64) (put : b ≡ sets b₀ 0 (each (le_bytes 8) (words_of u)))
     (sx : nx < 2 ^ 32) (sy : ny < 2 ^ 32) (sz : nz < 2 ^ 32)
     (x : of_bits binary32 nx ≡ u.x) (y : of_bits binary32 ny ≡ u.y) (z : of_bits binary32 nz ≡ u.z) where
   abbrev b₁ : List ℕ
@@ -99,6 +104,12 @@ module _ (u : Summary) (b : List ℕ) (nx ny nz : ℕ) (long : length b ≡ 144)
 
   abbrev pub stored : List ℕ
   stored = sets b₃ 140 (le_bytes 4 0)
+
+  long : length b ≡ 144
+  long = ap length put ∙ length-sets b₀ 0 (each (le_bytes 8) (words_of u)) ∙ long₀
+
+  words : (i : ℕ) → i < 16 → word b i ≡ get_or (words_of u) i 0
+  words i h = rw put (rw zero-add at (words_back (words_of u) b₀ 0 i small (omega (arith, long₀)) h))
 
   at : (i : ℕ) → i < 16 → word stored i ≡ get_or (words_of u) i 0
   at i h =
@@ -214,12 +225,12 @@ module _ (u : Summary) (b₀ : List ℕ) (long : length b₀ ≡ 144) where
   upto₄ : length (w₃ ++ le_bytes 4 0) ≡ 144
   upto₄ = rw (length-append, upto₃, le_bytes_length)
 
-  pub stored_bytes : {b : List ℕ} → b ≡ over w₀ b₀
+  pub stored_bytes : {b : List ℕ} → b ≡ sets b₀ 0 w₀
       → sets (sets (sets (sets b 128 (single_bytes u.x)) 132 (single_bytes u.y)) 136 (single_bytes u.z)) 140 (le_bytes 4 0) ≡ summary_bytes u
-  unfolding summary_bytes zeros
+  unfolding summary_bytes zeros over
   stored_bytes e =
       rw (
-        e,
+        e ∙ over_stored [] w₀ b₀ 0 refl (rw (upto₀, long) (lit≤ tt)),
         over_stored w₀ (single_bytes u.x) b₀ 128 upto₀ (rw (four u.x, long) (lit≤ tt)),
         over_stored w₁ (single_bytes u.y) b₀ 132 upto₁ (rw (four u.y, long) (lit≤ tt)),
         over_stored w₂ (single_bytes u.z) b₀ 136 upto₂ (rw (four u.z, long) (lit≤ tt)),

@@ -1,5 +1,6 @@
 -- Summaries and channel records as lent bytes, little-endian: what include/nd2.h declares.
 use Rattle.std.specs.Prelude.{ℕ, ◌+◌, ◌*◌, Bool, cond, ◌&&◌, ◌||◌, List, [], ◌∷◌, ◌++◌, length, get_or, eqb, leb, ltb, Float}
+use Rattle.std.specs.Prelude as std
 use Rattle.std.proofs.Math.Option.{Option, none, some}
 use Rattle.std.specs.Float.{binary32}
 use Rattle.std.specs.Float.Ieee.{of_bits, to_bits}
@@ -11,7 +12,7 @@ use Rattle.format.specs.declared.Axis.TheVariants.{T, Z, P}
 use Rattle.format.specs.declared.Loop.{Loop}
 use Rattle.format.specs.declared.Summary.{Summary}
 use Rattle.format.specs.declared.Channel.{Channel}
-use Rattle.layout.specs.declared.Laid.{Laid}
+use Rattle.format.specs.Given.{maybe}
 
 -- ---- a summary: 144 bytes
 
@@ -81,8 +82,8 @@ unfolding of_layout summary_in
 summary_from b = cond (of_layout b) (some (summary_in b)) none
 
 -- the answer of `summary_from`
-unfoldable pub laid_of : Laid → Option Summary
-laid_of r = cond r.ok (some r.summary) none
+abbrev pub laid_of : std.Option Summary → Option Summary
+laid_of r = maybe r
 
 -- ---- a channel record: 56 bytes, seven words
 

@@ -1,17 +1,17 @@
 // Summaries and channel records as lent bytes, so that they cross a border of byte slices.
 #![tactic(auto)]
 
-ghost use Rattle.std.specs.Prelude.{◌≡◌, ℕ, ◌+◌, ◌*◌, ◌^◌, ◌≤◌, ◌<◌, length, get_or};
+ghost use Rattle.std.specs.Prelude.{◌≡◌, ◌↔◌, IsTrue, true, ℕ, ◌+◌, ◌*◌, ◌^◌, ◌≤◌, ◌<◌, length, get_or};
 ghost use Rattle.std.proofs.Math.Option.{some};
 ghost use Rattle.std.proofs.lemmas.List.Edits.{sets};
 ghost use Rattle.std.specs.Float.{binary32};
 ghost use Rattle.std.specs.Float.Ieee.{of_bits, to_bits};
-ghost use Rattle.format.specs.Bytes.{le_bytes, over, each};
-ghost use Rattle.layout.specs.Layout.{word, single, axis_from, loop_from, summary_in, axis_said, of_layout, summary_from, laid_of};
+ghost use Rattle.format.specs.Bytes.{le_at, le_bytes, each};
+ghost use Rattle.layout.specs.Layout.{single, axis_from, loop_from, summary_in, axis_said, of_layout, summary_from, laid_of};
 ghost use Rattle.layout.specs.Layout.{words_of, single_bytes, summary_bytes, channel_bytes};
 
-use cursor::{le4, le8, put4, put8};
-use format::{Axis, Channel, Loop, Range, Summary, axis_number};
+use cursor::{le, put};
+use format::{Axis, Channel, Loop, Range, Summary};
 use number::{single_bits, single_of};
 
 // The bytes of a summary.
@@ -20,94 +20,64 @@ pub const SUMMARY_BYTES: usize = 144;
 // The bytes of a channel record.
 pub const CHANNEL_BYTES: usize = 56;
 
-// A summary that was read from bytes; it says nothing where they are not of the layout.
-#[derive(Clone, Copy)]
-pub struct Laid {
-    pub ok: bool,
-    pub summary: Summary,
-}
-
 // ---- read
 
+// The axis of a number.
+#[tactic(auto, unfolding(crate::specs::Layout::axis_from))]
 fn axis_from(n: u64) -> Axis
     ensures { result ≡ axis_from n }
 {
-    if n == 0 {
-        return Axis::T;
+    match n {
+        0 => Axis::T,
+        1 => Axis::Z,
+        _ => Axis::P,
     }
-    if n == 1 {
-        return Axis::Z;
-    }
-    Axis::P
 }
 
+// Loop i: its axis and its count.
+#[tactic(auto, unfolding(crate::specs::Layout::loop_from))]
 fn loop_from(b: &[u8], i: usize) -> Loop
     requires { 16 * i + 16 ≤ length b.now }
     ensures { result ≡ loop_from b.now i }
 {
     Loop {
-        axis: axis_from(le8(b, 16 * i)),
-        count: le8(b, 16 * i + 8),
+        axis: axis_from(le::<8>(b, 16 * i)),
+        count: le::<8>(b, 16 * i + 8),
     }
 }
 
+// The f32 whose pattern stands at `at`.
 fn single_at(b: &[u8], at: usize) -> f32
     requires { at + 4 ≤ length b.now }
     ensures { result ≡ single b.now at }
 {
-    single_of(le4(b, at) as u32)
+    single_of(le::<4>(b, at) as u32)
 }
 
-fn summary_in(b: &[u8]) -> Summary
+// What the bytes of a summary say, whatever they are.
+#[tactic(auto, unfolding(crate::specs::Layout::summary_in))]
+pub fn summary_in(b: &[u8]) -> Summary
     requires { length b.now ≡ 144 }
     ensures { result ≡ summary_in b.now }
 {
-    let outer = loop_from(b, 0);
-    let middle = loop_from(b, 1);
-    let inner = loop_from(b, 2);
-    let loops = [outer, middle, inner];
     let map = Range {
-        start: le8(b, 96),
-        len: le8(b, 104),
+        start: le::<8>(b, 96),
+        len: le::<8>(b, 104),
     };
     Summary {
-        loops,
-        depth: le8(b, 48),
-        width: le8(b, 56),
-        stride: le8(b, 64),
-        height: le8(b, 72),
-        components: le8(b, 80),
-        bits: le8(b, 88),
+        loops: [loop_from(b, 0), loop_from(b, 1), loop_from(b, 2)],
+        depth: le::<8>(b, 48),
+        width: le::<8>(b, 56),
+        stride: le::<8>(b, 64),
+        height: le::<8>(b, 72),
+        components: le::<8>(b, 80),
+        bits: le::<8>(b, 88),
         map,
-        calibration: le8(b, 112),
+        calibration: le::<8>(b, 112),
         x: single_at(b, 128),
         y: single_at(b, 132),
-        class: le8(b, 120),
+        class: le::<8>(b, 120),
         z: single_at(b, 136),
-    }
-}
-
-fn no_summary() -> Summary {
-    let l = Loop {
-        axis: Axis::T,
-        count: 0,
-    };
-    let loops = [l; 3];
-    let map = Range { start: 0, len: 0 };
-    Summary {
-        loops,
-        depth: 0,
-        width: 0,
-        stride: 0,
-        height: 0,
-        components: 0,
-        bits: 0,
-        map,
-        calibration: 0,
-        x: 0.0,
-        y: 0.0,
-        class: 0,
-        z: 0.0,
     }
 }
 
@@ -116,53 +86,47 @@ fn axis_said(b: &[u8], i: usize) -> bool
     requires { (length b.now ≡ 144) × (i < 3) }
     ensures { result ≡ axis_said b.now i }
 {
-    (le8(b, 48) <= i as u64) | (le8(b, 16 * i) < 3)
+    (le::<8>(b, 48) <= i as u64) | (le::<8>(b, 16 * i) < 3)
 }
 
+// Whether each loop place is not used, or has an axis.
+fn axes_said(b: &[u8]) -> bool
+    requires { length b.now ≡ 144 }
+    ensures { IsTrue result ↔ ((i : ℕ) → i < 3 → axis_said b.now i ≡ true) }
+{
+    (0..3).all(|i| axis_said(b, i))
+}
+
+// Whether the bytes are a summary's.
+#[tactic(auto, unfolding(crate::specs::Layout::of_layout))]
 fn of_layout(b: &[u8]) -> bool
     ensures { result ≡ of_layout b.now }
 {
-    if b.len() != SUMMARY_BYTES {
-        return false;
-    }
-    axis_said(b, 0) & axis_said(b, 1) & axis_said(b, 2) & (le4(b, 140) == 0)
+    b.len() == SUMMARY_BYTES && axes_said(b) && le::<4>(b, 140) == 0
 }
 
 // The summary that lent bytes say.
-pub fn summary_from(b: &[u8]) -> Laid
+#[tactic(auto, unfolding(crate::specs::Layout::summary_from))]
+pub fn summary_from(b: &[u8]) -> Option<Summary>
     ensures { laid_of result ≡ summary_from b.now }
 {
     if of_layout(b) {
-        return Laid {
-            ok: true,
-            summary: summary_in(b),
-        };
-    }
-    Laid {
-        ok: false,
-        summary: no_summary(),
+        Some(summary_in(b))
+    } else {
+        None
     }
 }
 
 // ---- written
 
-// A word is below 2^64.
-fn bounded(v: u64) -> u64
-    ensures { (result ≡ v) × (result < 2 ^ 64) }
+// Stores words from `at` on, one after another.
+fn put_words(b: &mut [u8], at: usize, w: &[u64])
+    requires { at + 8 * length w.now ≤ length b.old }
+    ensures bytes { b.new ≡ sets b.old at (each (le_bytes 8) w.now) }
+    ensures small { (i : ℕ) → get_or w.now i 0 < 2 ^ 64 }
 {
-    v
-}
-
-// Stores sixteen words, one after another.
-fn put_words(b: &mut [u8], w: [u64; 16])
-    requires { 128 ≤ length b.old }
-    ensures bytes { b.new ≡ over (each (le_bytes 8) w) b.old }
-    ensures words { (i : ℕ) → i < 16 → word b.new i ≡ get_or w i 0 }
-{
-    let mut i = 0;
-    while i < 16 {
-        put8(b, 8 * i, bounded(w[i]));
-        i += 1;
+    for (i, word) in w.iter().enumerate() {
+        put::<8>(b, at + 8 * i, *word);
     }
 }
 
@@ -172,26 +136,20 @@ fn put_single(b: &mut [u8], at: usize, x: f32)
     ensures bytes { b.new ≡ sets b.old at (single_bytes x) }
     ensures back { (to_bits binary32 x < 2 ^ 32) × (of_bits binary32 (to_bits binary32 x) ≡ x) }
 {
-    put4(b, at, single_bits(x) as u64);
+    put::<4>(b, at, u64::from(single_bits(x)));
 }
 
 // The first sixteen words of a summary.
 fn words_of(u: Summary) -> [u64; 16]
     ensures { result ≡ words_of u }
 {
-    let outer = u.loops[0];
-    let middle = u.loops[1];
-    let inner = u.loops[2];
-    let a = outer.axis;
-    let m = middle.axis;
-    let i = inner.axis;
-    let map = u.map;
+    let [outer, middle, inner] = u.loops;
     [
-        axis_number(a),
+        u64::from(outer.axis),
         outer.count,
-        axis_number(m),
+        u64::from(middle.axis),
         middle.count,
-        axis_number(i),
+        u64::from(inner.axis),
         inner.count,
         u.depth,
         u.width,
@@ -199,8 +157,8 @@ fn words_of(u: Summary) -> [u64; 16]
         u.height,
         u.components,
         u.bits,
-        map.start,
-        map.len,
+        u.map.start,
+        u.map.len,
         u.calibration,
         u.class,
     ]
@@ -212,11 +170,11 @@ pub fn put_summary(b: &mut [u8], u: Summary)
     ensures bytes { b.new ≡ summary_bytes u }
     ensures said { summary_from b.new ≡ some u }
 {
-    put_words(b, words_of(u));
+    put_words(b, 0, &words_of(u));
     put_single(b, 128, u.x);
     put_single(b, 132, u.y);
     put_single(b, 136, u.z);
-    put4(b, 140, 0);
+    put::<4>(b, 140, 0);
 }
 
 // Stores a channel record at `at`.
@@ -224,11 +182,9 @@ pub fn put_channel(b: &mut [u8], at: usize, c: Channel)
     requires { at + 56 ≤ length b.old }
     ensures { b.new ≡ sets b.old at (channel_bytes c) }
 {
-    put8(b, at, c.named);
-    put8(b, at + 8, c.name);
-    put8(b, at + 16, c.units);
-    put8(b, at + 24, c.colored);
-    put8(b, at + 32, c.red);
-    put8(b, at + 40, c.green);
-    put8(b, at + 48, c.blue);
+    put_words(
+        b,
+        at,
+        &[c.named, c.name, c.units, c.colored, c.red, c.green, c.blue],
+    );
 }

@@ -11,12 +11,12 @@ returns c =
     let y = c.put_single-2.ensures in
     let z = c.put_single-3.ensures in
     let u = c.args.u in
+    let b = c.args.b.now in
     let full : length u.loops ≡ 3 = omega arith in
     let w = rw c.words_of.ensures at c.put_words.ensures in
-    let long : length c.put_words.new.b ≡ 144 = omega arith in
     record {
-      bytes = rw (c.put4.ensures, z.bytes, y.bytes, x.bytes) (stored_bytes u c.args.b.now c.requires w.bytes);
+      bytes = rw (c.put.ensures, z.bytes, y.bytes, x.bytes) (stored_bytes u b c.requires w.bytes);
       said =
-          rw (c.put4.ensures, z.bytes, y.bytes, x.bytes)
-          (stored_said u c.put_words.new.b _ _ _ long full w.words x.back.0 y.back.0 z.back.0 x.back.1 y.back.1 z.back.1);
+          rw (c.put.ensures, z.bytes, y.bytes, x.bytes)
+          (stored_said u b c.put_words.new.b _ _ _ c.requires full w.small w.bytes x.back.0 y.back.0 z.back.0 x.back.1 y.back.1 z.back.1);
     }
