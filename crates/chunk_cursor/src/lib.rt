@@ -9,6 +9,7 @@ use cursor::Cursor;
 use format::refusal::Refusal;
 
 // The number in N bytes at a place of a slice and the cursor after it; cut where fewer are left.
+#[tactic(auto, unfolding(cursor::specs::Words::word_at))]
 pub fn word_in<const N: usize>(slice: &[u8], at: usize) -> Result<(u64, Cursor), Refusal>
     requires { (0 < N) × (N ≤ 8) }
     ensures { (word_of result ≡ word_at N slice.now (to at (length slice.now)))

@@ -3,6 +3,7 @@ use Prim.Native.Nat.{ℕ, ◌+◌, ◌-◌, ◌*◌, ◌/◌, ◌≤◌, ◌<◌
 use mathlib.Core.Path.{◌≡◌, refl, ◌∙◌}
 use mathlib.Core.Bool.{true, false, ◌||◌}
 use mathlib.Core.List.{List}
+use mathlib.Core.Logic.{◌⊎◌, inl, inr}
 use native.Mathlib.Omega.{arith}
 use borrow.Author.Tests.{lt-ltb, le-ltb, le-leb, lt-leb, ne_eqb}
 use lib.ListN.{length, get_or}
@@ -11,7 +12,7 @@ use Rattle.std.specs.Prelude.{Some, None, Result, Ok, Err}
 use Rattle.format.proofs.Trees.ByRules.{records_step}
 use Rattle.format.specs.Bytes.{le_at}
 use Rattle.format.specs.Text.{units}
-use Rattle.format.specs.Trees.{fault, Read, ends, follow, fixed_value, text_units, text_value, bytes_value, Children, level_value, level_end, fixed_len}
+use Rattle.format.specs.Trees.{fault, Read, ends, follow, fixed_value, text_units, text_value, bytes_value, Children, level_value, fixed_len}
 use Rattle.format.specs.Trees.{value, known, ChildrenAt, record_at, records}
 use Rattle.format.specs.declared.Entry.{Entry}
 use Rattle.cursor.proofs.Reading.{was_cut, was_got}
@@ -20,7 +21,7 @@ use Rattle.format.specs.Given.{number}
 use Rattle.format.specs.declared.refusal.Refusal.{Refusal}
 use Rattle.format.specs.declared.refusal.Refusal.TheVariants as is
 use Rattle.cursor.specs.declared.Cursor.{Cursor}
-use Rattle.cursor.specs.Steps.{HeadRead, LeafRead, LevelRead, Skipped}
+use Rattle.cursor.specs.Steps.{HeadRead, LeafRead, LevelRead}
 use Rattle.cursor.specs.declared.record.Leaf.{Leaf}
 
 -- ---- a record's head
@@ -40,31 +41,31 @@ module _ (d : List ℕ) {i e k m : ℕ} (two : i + 2 ≤ e) (kind : k ≡ get_or
   unfolding record_at
   head_packed h = bad is.Packed λ base children parent used. rw (← kind, h)
 
-  module _ (plain : k ≡ 76 → ⊥) where
-    pub head_early : (eqb k 0 || eqb k 10) ≡ true → HeadRead d (to i e) (Err is.Kind)
+  pub head_early : (k ≡ 0) ⊎ (k ≡ 10) → HeadRead d (to i e) (Err is.Kind)
+  unfolding record_at
+  head_early (inl h) = bad is.Kind λ base children parent used. rw (← kind, h)
+  head_early (inr h) = bad is.Kind λ base children parent used. rw (← kind, h)
+
+  module _ (plain : k ≡ 76 → ⊥) (late : (eqb k 0 || eqb k 10) ≡ false) where
+    pub head_cut : (e - (i + 2)) / 2 < m → HeadRead d (to i e) (Err is.Cut)
     unfolding record_at
-    head_early h = bad is.Kind λ base children parent used. rw (← kind, ne_eqb k 76 plain, h)
+    head_cut h = bad is.Cut λ base children parent used. rw (← kind, ← count, ne_eqb k 76 plain, late, lt-ltb e (i + 2 + 2 * m) (omega arith))
 
-    module _ (late : (eqb k 0 || eqb k 10) ≡ false) where
-      pub head_cut : (e - (i + 2)) / 2 < m → HeadRead d (to i e) (Err is.Cut)
+    module _ (fits : m ≤ (e - (i + 2)) / 2) where
+      pub head_unknown : known k ≡ false → HeadRead d (to i e) (Err is.Kind)
       unfolding record_at
-      head_cut h = bad is.Cut λ base children parent used. rw (← kind, ← count, ne_eqb k 76 plain, late, lt-ltb e (i + 2 + 2 * m) (omega arith))
+      head_unknown h = bad is.Kind λ base children parent used. rw (← kind, ← count, ne_eqb k 76 plain, late, le-ltb e (i + 2 + 2 * m) (omega arith), h)
 
-      module _ (fits : m ≤ (e - (i + 2)) / 2) where
-        pub head_unknown : known k ≡ false → HeadRead d (to i e) (Err is.Kind)
-        unfolding record_at
-        head_unknown h = bad is.Kind λ base children parent used. rw (← kind, ← count, ne_eqb k 76 plain, late, le-ltb e (i + 2 + 2 * m) (omega arith), h)
-
-        pub head_named : {u : ℕ} → e ≤ length d → known k ≡ true → u ≡ m - 1
-            → HeadRead d (to i e) (Ok (Some (record { kind = k; start = i; units = u }, to (i + 2 + 2 * m) e)))
-        unfolding record_at
-        head_named w h q =
-            record {
-              says =
-                  λ base children parent n used. records_step d base children parent n used i e two
-                  ∙ rw (← kind, ← count, ne_eqb k 76 plain, late, le-ltb e (i + 2 + 2 * m) (omega arith), h);
-              good = (record { kind = kind; units = rw (q, count); before = omega arith; within = record { order = omega arith; inside = w } }, refl);
-            }
+      pub head_named : {u : ℕ} → e ≤ length d → known k ≡ true → u ≡ m - 1
+          → HeadRead d (to i e) (Ok (Some (record { kind = k; start = i; units = u }, to (i + 2 + 2 * m) e)))
+      unfolding record_at
+      head_named w h q =
+          record {
+            says =
+                λ base children parent n used. records_step d base children parent n used i e two
+                ∙ rw (← kind, ← count, ne_eqb k 76 plain, late, le-ltb e (i + 2 + 2 * m) (omega arith), h);
+            good = (record { kind = kind; units = rw (q, count); before = omega arith; within = record { order = omega arith; inside = w } }, refl);
+          }
 
 -- ---- a value that is no level
 
@@ -91,18 +92,6 @@ module _ (d : List ℕ) (children : Children) (k start i e : ℕ) where
   value_level h entry = rw h
 
 module _ (d : List ℕ) (c : Cursor) (w : Within c d) where
-  pub fixed_cut : (n : ℕ) → c.end - c.at < n → LeafRead d c.end (fixed_value n c.at c.end) (Err is.Cut)
-  unfolding fixed_value
-  fixed_cut n h = record { says = λ entry. record { one = refl; stops = rw (lt-leb (c.at + n) c.end (omega arith)) }; good = tt }
-
-  pub fixed_read : (n : ℕ) → n ≤ c.end - c.at → LeafRead d c.end (fixed_value n c.at c.end) (Ok (record { at = c.at; size = n; next = to (c.at + n) c.end }))
-  unfolding fixed_value
-  fixed_read n h =
-      record {
-        says = λ entry. rw (le-leb (c.at + n) c.end (omega (arith, w.order)));
-        good = (record { order = omega (arith, w.order); inside = w.inside }, refl, w.order);
-      }
-
   module _ {n : ℕ} (size : n ≡ 2 * text_units (units ((c.end - c.at) / 2) d c.at)) (fits : c.at + n ≤ c.end) where
     pub text_cut : c.end - (c.at + n) < 2 → LeafRead d c.end (text_value d c.at c.end) (Ok (record { at = c.at; size = n; next = to (c.at + n) c.end }))
     unfolding text_value
@@ -244,14 +233,3 @@ module _ (d : List ℕ) (c : Cursor) (w : Within c d) {start : ℕ} (before : st
                       last = e;
                     };
               }
-
--- ---- a level's end
-
-module _ (c : Cursor) (k : ℕ) where
-  pub skip_cut : (c.end - c.at) / 8 < k → Skipped c k (Err is.Cut)
-  unfolding level_end
-  skip_cut h = record { says = rw (lt-leb (c.at + 8 * k) c.end (omega arith)); good = tt }
-
-  pub skip_done : c.at ≤ c.end → k ≤ (c.end - c.at) / 8 → Skipped c k (Ok (to (c.at + 8 * k) c.end))
-  unfolding level_end
-  skip_done o h = record { says = rw (le-leb (c.at + 8 * k) c.end (omega arith)); good = (omega arith, refl) }

@@ -1,14 +1,14 @@
--- A reading step at a cursor, at every width: cut, or the number and the cursor after it. Assumes nothing.
+-- A reading step at a cursor, at every width: what a cut is, and what an answer tells. Assumes nothing.
 use Prim.Native.Nat.{ℕ, ◌+◌, ◌-◌, ◌≤◌, ◌<◌}
 use mathlib.Core.Path.{◌≡◌, refl, ap}
 use mathlib.Core.Bool.{Bool, true, false, cond}
 use mathlib.Core.List.{List}
 use native.Mathlib.Omega.{arith}
-use borrow.Author.Tests.{lt-ltb, le-ltb, ltb-true, ltb-false}
+use borrow.Author.Tests.{lt-ltb, ltb-true, ltb-false}
 use lib.Dec.{ltb}
 use Rattle.std.specs.Prelude.{Ok, Err}
 use Rattle.format.specs.Bytes.{le_at}
-use Rattle.cursor.specs.Words.{to, Within, word_of, word_at, GoodWord}
+use Rattle.cursor.specs.Words.{to, word_of, word_at, GoodWord}
 use Rattle.format.specs.Given.{number}
 use Rattle.format.specs.declared.refusal.Refusal.{Refusal}
 use Rattle.format.specs.declared.refusal.Refusal.TheVariants.{Cut}
@@ -19,12 +19,6 @@ module _ (n : ℕ) (s : List ℕ) (c : Cursor) where
   unfolding word_at
   cut h = (rw (lt-ltb _ _ h), refl)
 
-  pub got : Within c s → n ≤ c.end - c.at → {v : ℕ} → v ≡ le_at n s c.at
-      → (word_of (Ok (v, to (c.at + n) c.end)) ≡ word_at n s c) × GoodWord s c n (Ok (v, to (c.at + n) c.end))
-  unfolding word_at
-  got w h e = (rw (le-ltb _ _ h, e), (record { order = omega arith; inside = omega arith }, refl, refl))
-
-  -- what an answer tells
   pub was_cut : (x : Refusal) → word_at n s c ≡ word_of (Err x) → (c.end - c.at < n) × (number x ≡ 6)
   unfolding word_at
   was_cut x e = go (ltb (c.end - c.at) n) refl e

@@ -23,6 +23,7 @@ pub fn le<const N: usize>(s: &[u8], at: usize) -> u64
 }
 
 // Stores the N low bytes of v in the N bytes at `at`.
+#[tactic(auto, unfolding(format::specs::Bytes::le_bytes))]
 pub fn put<const N: usize>(d: &mut [u8], at: usize, v: u64)
     requires { at + N ≤ length d.old }
     ensures { d.new ≡ sets d.old at (le_bytes N v) }
@@ -35,6 +36,7 @@ pub fn put<const N: usize>(d: &mut [u8], at: usize, v: u64)
 }
 
 // Makes every byte zero.
+#[tactic(auto, unfolding(format::specs::Bytes::zeros))]
 pub fn clear(d: &mut [u8])
     ensures { d.new ≡ zeros (length d.old) }
 {
@@ -63,6 +65,7 @@ pub struct Cursor {
 
 impl Cursor {
     // A number of N bytes, with the cursor after it; cut where fewer are left.
+    #[tactic(auto, unfolding(crate::specs::Words::word_at))]
     pub fn read<const N: usize>(self, s: &[u8]) -> Result<(u64, Cursor), Refusal>
         requires { (N ≤ 8) × Within self s.now }
         ensures { (word_of result ≡ word_at N s.now self) × GoodWord s.now self N result }

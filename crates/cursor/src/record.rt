@@ -41,7 +41,7 @@ pub struct Level {
 fn is_known(kind: u64) -> bool
     ensures { result ≡ known kind }
 {
-    (1 <= kind) & (kind <= 9) | (kind == 11)
+    matches!(kind, 1..=9 | clx_type::LEVEL)
 }
 
 // How many of a name's units are kept: all but the last.
@@ -105,6 +105,7 @@ impl Cursor {
     }
 
     // The value that the next `size` bytes are; cut where fewer are left.
+    #[tactic(auto, unfolding(format::specs::Trees::fixed_value))]
     fn take(self, size: usize) -> Result<Leaf, Refusal>
         requires { self.at ≤ self.end }
         ensures { (d : List ℕ) → Within self d → LeafRead d self.end (fixed_value size self.at self.end) result }
@@ -141,11 +142,10 @@ impl Cursor {
         requires { (self.at ≡ start + 2) × (self.at ≤ self.end) }
         ensures { (d : List ℕ) → self.end ≤ length d → kind ≡ get_or d start 0 → units ≡ get_or d (start + 1) 0 → HeadRead d (to start self.end) result }
     {
-        if kind == clx_type::COMPRESS {
-            return Err(Refusal::Packed);
-        }
-        if (kind == 0) | (kind == 10) {
-            return Err(Refusal::Kind);
+        match kind {
+            clx_type::COMPRESS => return Err(Refusal::Packed),
+            0 | 10 => return Err(Refusal::Kind),
+            _ => {}
         }
         let at = self.at;
         let end = self.end;
@@ -199,6 +199,7 @@ impl Cursor {
     }
 
     // Past a level's offsets, eight bytes for each of its items.
+    #[tactic(auto, unfolding(format::specs::Trees::level_end))]
     pub fn skip_offsets(self, count: usize) -> Result<Cursor, Refusal>
         requires { self.at ≤ self.end }
         ensures { Skipped self count result }

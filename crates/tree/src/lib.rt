@@ -67,6 +67,7 @@ fn entry_of(base: u64, parent: u64, n: Name, at: usize, size: usize) -> Entry
 }
 
 // Stores an entry in its place of the table, number u.
+#[tactic(auto, using(format::proofs::Trees::Tables::sets_entry))]
 fn put_entry(table: &mut [u8], u: usize, e: Entry)
     requires { 48 * u + 48 ≤ length table.old }
     ensures { (table.new ≡ sets table.old (48 * u) (entry_bytes e)) × Fit e }

@@ -11,7 +11,3 @@ loop-i-preserved g c =
     let n : g.row.N - l.i ≡ suc (g.row.N - (l.i + 1)) = omega arith in
     let j : c.args.at + (l.i + 1) ≡ suc (c.args.at + l.i) = omega arith in
     rw j (rw n at l.invariant)
-
-pub returns : goal.returns
-unfolding le_bytes
-returns g c = let z : g.row.N - c.loop-i.i ≡ 0 = omega arith in rw z at c.loop-i.invariant

@@ -1,11 +1,8 @@
 -- `tree::read_head` reads a record's head as the format does.
 use native.Mathlib.Omega.{arith}
-use Rattle.tree.proofs.Heads.{cut_length, head_none, Started, head_begun}
+use Rattle.tree.proofs.Heads.{head_none, Started, head_begun}
 use Rattle.tree.proofs.read_head.Goals as goal
 use Rattle.tree.proofs.read_head.Goals.{In-Some}
-
-pub slice_bounds-record_start-end : goal.slice_bounds-record_start-end
-slice_bounds-record_start-end c = cut_length _ _ c.requires
 
 -- the type is read, and the name's units
 begun : (c : In-Some) → Started c.args.d.now c.args.c c.requires c.in-Some.start
