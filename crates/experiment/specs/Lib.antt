@@ -1,5 +1,5 @@
--- what stands for the loops that were appended; what one level says; what a walk has come to; what is handed out
-pub mod Kept
+-- the types of loops; what one level says; what stands for the loops that were appended; what a walk has come to
+pub mod Kind
 pub mod Single
+pub mod Kept
 pub mod Walked
-pub mod Loaded

@@ -1,57 +1,48 @@
 -- `single_experiment_loop`: by the parameters and the type.
-use mathlib.Core.Path.{◌≡◌, refl, ap, ◌∙◌}
+use Prim.Native.Nat.{ℕ}
+use mathlib.Core.Path.{◌≡◌, sym, ap, ◌∙◌}
+use mathlib.Core.Option.{some}
+use mathlib.Core.List.{List}
+use borrow.Author.Rules.{rules}
+use lib.IntN.{ℤ}
+use mir.Syntax.{w64}
+use Rattle.std.specs.Prelude as std
+use Rattle.std.proofs.lemmas.Int.{to_z-of_z}
 use Rattle.format.specs.Bytes.{ascii}
-use Rattle.format.specs.Values.{field_in}
+use Rattle.format.specs.Values.{field_in, bind}
+use Rattle.format.specs.Numbers.{signed}
 use Rattle.format.specs.Loops.{loop_params, said, said_by, typed}
-use Rattle.lookup.specs.Table.{entries_in, found}
-use Rattle.lookup.proofs.Search.{at_within}
+use Rattle.format.specs.declared.Entry.{Entry}
+use Rattle.format.specs.declared.refusal.Refusal.{Refusal}
+use Rattle.number.specs.Readings.{integer}
+use Rattle.lookup.proofs.Search.{is_at}
+use Rattle.lookup.specs.Table.{entries_in}
+use Rattle.experiment.specs.Kind.{said_by_kind}
+use Rattle.experiment.specs.declared.kind.LoopKind.{LoopKind}
 use Rattle.experiment.proofs.single.single_experiment_loop.Goals as goal
-use Rattle.experiment.proofs.single.single_experiment_loop.Goals.{After-as_loop_params}
+use Rattle.experiment.proofs.single.single_experiment_loop.Goals.{After-kind_of}
 
-parameters : (c : After-as_loop_params)
+-- what a level with parameters and a type says, by its type
+by_type : (s : List ℕ) (es : List Entry) (i p : ℕ) (n : ℤ) (r : std.Result (std.Option LoopKind) Refusal)
+    → some p ≡ loop_params s es (field_in s es i (ascii "uLoopPars")) → some n ≡ bind (field_in s es i (ascii "eType")) signed
+    → typed s es i p n ≡ said_by_kind s es i p r → said s es i ≡ said_by_kind s es i p r
+unfolding said said_by
+by_type s es i p n r h k e = rw (← h, ← k) e
+
+of_level : (c : After-kind_of)
     → let a = c.args in
-    found c.as_loop_params.result
-    ≡ loop_params a.file.now (entries_in a.table.now a.used)
-    (field_in a.file.now (entries_in a.table.now a.used) a.i (ascii "uLoopPars"))
+    said a.file.now (entries_in a.table.now a.used) a.i ≡ said_by_kind a.file.now (entries_in a.table.now a.used) a.i c.in-Some.p c.kind_of.result
 unfolding ascii
-parameters c = c.as_loop_params.ensures.0 _ ∙ ap (loop_params _ _) c.get-params.ensures.0
+of_level c =
+    let a = c.args in
+    by_type _ _ _ _ _ _ (is_at _ _ _ c.in-Some.is (c.as_loop_params.ensures.0 _ ∙ ap (loop_params _ _) c.get-params.ensures.0))
+    (sym (ap integer c.in-Some-get_i64.is) ∙ c.get_i64.ensures)
+    (rw (to_z-of_z w64 c.in-Some-get_i64.n (search rules)) at (c.kind_of.ensures a.file.now (entries_in a.table.now a.used) a.i c.in-Some.p))
 
-pub returns-in_default : goal.returns-in_default
-unfolding said said_by found
-returns-in_default c = rw (← parameters (goal.at.returns-in_default c).After-as_loop_params, c.in_default.is) refl
+pub returns-in_err-kind : goal.returns-in_err-kind
+returns-in_err-kind c =
+    let e : c.from_residual.result ≡ std.Err c.in_err-kind.field-0.0 = search rules in
+    rw e (sym (rw c.in_err-kind.was at (of_level (goal.at.returns-in_err-kind c).After-kind_of)))
 
-pub typed_loop-requires : goal.typed_loop-requires
-typed_loop-requires c = (
-  c.requires.0,
-  c.requires.1,
-  at_within _ _ _ c.in-At.is
-      c.as_loop_params.ensures.1,
-)
-
-pub returns-in-Absent : goal.returns-in-Absent
-unfolding said said_by found ascii
-returns-in-Absent c = rw (
-  ← parameters (goal.at.returns-in-Absent c).After-as_loop_params,
-  c.in-At.is,
-  ← c.get_i64.ensures,
-  c.in-Absent.is,
-) refl
-
-pub returns-in-Below : goal.returns-in-Below
-unfolding said said_by typed found ascii
-returns-in-Below c = rw (
-  ← parameters (goal.at.returns-in-Below c).After-as_loop_params,
-  c.in-At.is,
-  ← c.get_i64.ensures,
-  c.in-Below.is,
-) refl
-
-pub returns-in-Is : goal.returns-in-Is
-unfolding said said_by found ascii
-returns-in-Is c =
-    rw (
-      ← parameters (goal.at.returns-in-Is c).After-as_loop_params,
-      c.in-At.is,
-      ← c.get_i64.ensures,
-      c.in-Is.is,
-    ) c.typed_loop.ensures
+pub returns : goal.returns
+returns c = rw c.loop_count.ensures at c.counted_loop.ensures ∙ sym (rw (c.in_ok-kind.was, c.in-Some-2.is) at (of_level (goal.at.returns c).After-kind_of))
