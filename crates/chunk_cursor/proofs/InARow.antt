@@ -48,8 +48,10 @@ starts s a (Ok (x, c)) (Err e) p q = let m = (was_cut 1 s (to (a + 1) (length s)
 starts s a (Err e) t p q = let m = (was_cut 1 s (to a (length s)) e (sym p)).0 in rw (lt-ltb (length s) (a + 2) (omega (arith, m)))
 
 -- the same through the chunk's cursor: c at the place a of the slice x, k read there, d after it, and t read at d
-pub through : (x : Bor (List ℕ)) (a : ℕ) (c d : ChunkCursor) (k t : Result (ℕ × Cursor) Refusal) → (c.slice ≡ x) × (c.at ≡ a) → word_of k ≡ word_at 1 c.slice.now (part_of c)
-    → (d.slice ≡ c.slice) × (d.at ≡ place_after c.at k) → word_of t ≡ word_at 1 d.slice.now (part_of d) → start_by (result_ok k) (result_ok t) ≡ start_at x.now a
+pub through : (x : Bor (List ℕ)) (a : ℕ) (c d : ChunkCursor) (k t : Result (ℕ × Cursor) Refusal) → (c.slice ≡ x) × (c.at ≡ a)
+    → word_of k ≡ word_at 1 c.slice.now (part_of c)
+    → (d.slice ≡ c.slice) × (d.at ≡ place_after c.at k) → word_of t ≡ word_at 1 d.slice.now (part_of d)
+    → start_by (result_ok k) (result_ok t) ≡ start_at x.now a
 through x a c d k t made first moved then =
     let at_x : (y : Bor (List ℕ)) (p : ℕ) → Answer (ℕ × Cursor) = λ y p. word_at 1 y.now (to p (length y.now)) in
     let k-is : word_of k ≡ word_at 1 x.now (to a (length x.now)) = first ∙ (ap (λ y. at_x y c.at) made.0 ∙ ap (λ p. at_x x p) made.1) in

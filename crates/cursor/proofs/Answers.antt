@@ -209,7 +209,8 @@ module _ (d : List ℕ) (c : Cursor) (w : Within c d) {start : ℕ} (before : st
                 good = tt;
               }
 
-          pub level_inner : n - (v.at - start) ≤ v.end - v.at → LevelRead d start c (Ok (record { count = k; inner = to v.at (start + n); after = to (start + n) v.end }))
+          pub level_inner : n - (v.at - start) ≤ v.end - v.at
+              → LevelRead d start c (Ok (record { count = k; inner = to v.at (start + n); after = to (start + n) v.end }))
           unfolding level_value
           level_inner h =
               let (q, r, a, e, f) = numbers in

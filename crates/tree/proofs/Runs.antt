@@ -270,8 +270,8 @@ module _ {d : List ℕ} {base : ℕ} {n : Name} {v : Cursor} {p : Spot} {t : Lis
       })
 
   -- a level's entry is stored, and its children are read
-  module _ {k : ℕ} {c a : Cursor} (kind : n.kind ≡ 11) (level : LevelRead d n.start v (Ok (record { count = k; inner = c; after = a }))) (some : p.levels ≡ 0 → ⊥)
-      {t₁ : List ℕ} (put : t₁ ≡ sets t (48 * p.used) (entry_bytes (entry_for base p.parent n c.at (c.end - c.at)))) where
+  module _ {k : ℕ} {c a : Cursor} (kind : n.kind ≡ 11) (level : LevelRead d n.start v (Ok (record { count = k; inner = c; after = a })))
+      (some : p.levels ≡ 0 → ⊥) {t₁ : List ℕ} (put : t₁ ≡ sets t (48 * p.used) (entry_bytes (entry_for base p.parent n c.at (c.end - c.at)))) where
     abbrev own : Entry
     own = entry_of d base p.parent n.start c.at (c.end - c.at)
 
