@@ -19,7 +19,7 @@ use Rattle.format.proofs.Ground.Tests.{true_same, false_same}
 use Rattle.chunk.specs.Scan.{entry_at, Entry}
 use Rattle.register.specs.Naming.{Names}
 use Rattle.register.specs.Taking.{Taken}
-use Rattle.register.specs.declared.naming.Framed.TheVariants.{Number, Other}
+use Rattle.std.specs.Prelude.{Some, None}
 
 -- ---- one entry
 
@@ -32,10 +32,10 @@ module _ (m : List ℕ) (at n count : ℕ) (few : count < 2 ^ 64) (buf : List �
   keeps f =
       record { taken = λ ls b q. q ∙ ap (λ (l : List ℕ). over l b) (sym (register_same m es ls e count 0 λ i _ h. false_same _ _ (f i (omega arith)))) }
 
-  pub of_none : Names (part m at n) Other → Taken m count es (es ++ e ∷ []) buf buf
+  pub of_none : Names (part m at n) None → Taken m count es (es ++ e ∷ []) buf buf
   of_none x = keeps λ i h. x i (omega arith)
 
-  module _ (k : ℕ) (x : Names (part m at n) (Number k)) where
+  module _ (k : ℕ) (x : Names (part m at n) (Some k)) where
     the_frame : (i : ℕ) → i < count → part m at n ≡ frame_name i → i ≡ k
     the_frame i h q = name_different i k (omega arith) (omega (arith, x.1)) (sym q ∙ x.0)
 
@@ -111,6 +111,7 @@ module _ {m : List ℕ} {count : ℕ} {buf : List ℕ} {at entries : ℕ} {out :
       let z : h.passed ++ [] ≡ es = given_inj (sym (h.rest ∙ rw q refl) ∙ p) in
       rw (← z, append-nil) h.takes
 
-  pub pass_broken : map_from (most_entries - entries) m at ≡ refused 5 → (es : List MapEntry) → map_entries m ≡ given es → Taken m count [] es buf out
+  pub pass_broken : {n : ℕ} → map_from (most_entries - entries) m at ≡ refused n → (es : List MapEntry) → map_entries m ≡ given es
+      → Taken m count [] es buf out
   unfolding and_then
-  pass_broken q es p = absurd (refused≢given {n = 5} (sym (h.rest ∙ rw q refl) ∙ p))
+  pass_broken {n} q es p = absurd (refused≢given {n = n} (sym (h.rest ∙ rw q refl) ∙ p))

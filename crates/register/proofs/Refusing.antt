@@ -1,5 +1,5 @@
 -- The refusals of a register, test by test, what is left where none holds, and what the call's number and buffer promise. Assumes nothing.
-use Prim.Native.Nat.{ℕ, zero, suc, ◌*◌, ◌^◌, ◌≤◌, ◌<◌}
+use Prim.Native.Nat.{ℕ, ◌*◌, ◌^◌, ◌≤◌, ◌<◌}
 use mathlib.Core.Path.{◌≡◌, refl, sym, ap, ◌∙◌}
 use mathlib.Core.Bool.{Bool, true, false, ◌||◌}
 use mathlib.Core.List.{List, []}
@@ -18,6 +18,8 @@ use Rattle.format.specs.Sentences.{Refuses, AcceptedUnless}
 use Rattle.format.specs.Refused.Order.{First}
 use Rattle.format.specs.Refused.Summary.{Sound}
 use Rattle.format.specs.Refused.Register.{RegisterRefusal, register_order, Registered}
+use Rattle.format.specs.Given.{number}
+use Rattle.format.specs.declared.refusal.Refusal.{Refusal}
 use Rattle.format.specs.declared.Summary.{Summary}
 use Rattle.format.proofs.Ground.Answers.{Numbered, NotZero, refusal}
 use Rattle.format.proofs.Map.Entries.{map_numbered}
@@ -29,6 +31,10 @@ use Rattle.register.specs.Taking.{Taken}
 or_second : (a b : Bool) → b ≡ true → (a || b) ≡ true
 or_second true b e = refl
 or_second false b e = e
+
+-- no refusal has the number 0
+number_some : (e : Refusal) → number e ≡ 0 → ⊥
+number_some e h = grind arith
 
 -- ---- the refusals
 
@@ -52,44 +58,38 @@ module _ (s : List ℕ) (u : Summary) (room : ℕ) where
   unfolding registered refuse_if number_of
   bad_summary_is q = rw q refl
 
-  module _ (q : bad_summary s u ≡ false) {n : ℕ} (e : n ≡ number_of (map_entries (map_of s u))) where
+  module _ (q : bad_summary s u ≡ false) where
     after : number_of (and_then (map_entries (map_of s u)) room_for) ≡ number_of (registered s u room)
     unfolding registered refuse_if
     after = rw q refl
 
-    pub bad_map : (n ≡ 0 → ⊥) → n ≡ number_of (registered s u room)
+    pub bad_map : (e : Refusal) → number e ≡ number_of (map_entries (map_of s u)) → number e ≡ number_of (registered s u room)
     unfolding and_then number_of
-    bad_map f = by (map_entries (map_of s u)) e ∙ after
+    bad_map e p = by (map_entries (map_of s u)) p ∙ after
       where
-        by : (a : Answer (List MapEntry)) → n ≡ number_of a → n ≡ number_of (and_then a room_for)
+        by : (a : Answer (List MapEntry)) → number e ≡ number_of a → number e ≡ number_of (and_then a room_for)
         by (refused k) p = p
-        by (given es) p = absurd (f p)
+        by (given es) p = absurd (number_some e p)
 
-    module _ (z : n ≡ 0) where
+    module _ (z : 0 ≡ number_of (map_entries (map_of s u))) where
       read : (P : Answer (List MapEntry) → Type 0) → ((es : List MapEntry) → P (given es)) → P (map_entries (map_of s u))
       unfolding number_of
-      read P f = by (map_entries (map_of s u)) (map_numbered (map_of s u) NotZero (omega arith)) e
+      read P f = by (map_entries (map_of s u)) (map_numbered (map_of s u) NotZero (omega arith)) z
         where
-          by : (a : Answer (List MapEntry)) → Numbered NotZero a → n ≡ number_of a → P a
+          by : (a : Answer (List MapEntry)) → Numbered NotZero a → 0 ≡ number_of a → P a
           by (refused k) (refusal h) p = absurd (omega arith)
           by (given es) h p = f es
 
-      short : room < size → why.buffer ≡ number_of (registered s u room)
+      pub short : room < size → why.buffer ≡ number_of (registered s u room)
       unfolding and_then number_of refuse_if
       short h =
           read (λ a. why.buffer ≡ number_of (and_then a room_for)) (λ es. rw (or_second (ltb most64 size) (ltb room size) (lt-ltb room size h)) refl) ∙ after
 
-      long : size ≤ room → room < 2 ^ 64 → 0 ≡ number_of (registered s u room)
+      pub long : size ≤ room → room < 2 ^ 64 → 0 ≡ number_of (registered s u room)
       unfolding and_then number_of refuse_if
       long h l =
           read (λ a. 0 ≡ number_of (and_then a room_for))
           (λ es. rw (or_none (ltb most64 size) (ltb room size) (le-ltb most64 size (omega arith)) (le-ltb room size h)) refl) ∙ after
-
-      -- the number that the buffer gives is what is left
-      pub of_room : room < 2 ^ 64 → (r : ℕ) {count : ℕ} → count ≡ frames (loops_of u) → (r ≡ 0 → 24 * count ≤ room) × (0 < r → (r ≡ 25) × (room < 24 * count))
-          → r ≡ number_of (registered s u room)
-      of_room l zero c (f, g) = let h = f refl in long (omega arith) l
-      of_room l (suc r) c (f, g) = let (q, h) = g (omega arith) in q ∙ short (omega arith)
 
   -- none holds
   pub ready : number_of (registered s u room) ≡ 0 → Ready s u room
@@ -124,34 +124,33 @@ module _ (s : List ℕ) (u : Summary) (buf : List ℕ) where
   R = RegisterRefusal s u buf
 
   -- the call's number and buffer, and the sentences that follow
-  abbrev pub Promised : ℕ → List ℕ → Type 0
-  Promised n out =
-      (n ≡ (register_call s u buf).number) × ((out ≡ (register_call s u buf).buffer) × (First R register_order n × (AcceptedUnless R n
-      × ((n ≡ 0 → Registered s u buf out) × (Refuses n → out ≡ buf)))))
+  pub record Promised (n : ℕ) (out : List ℕ) : Type 0 where
+    pub number : n ≡ (register_call s u buf).number
+    pub buffer : out ≡ (register_call s u buf).buffer
+    pub first : First R register_order n
+    pub accepted : AcceptedUnless R n
+    pub registered : n ≡ 0 → Registered s u buf out
+    pub untouched : Refuses n → out ≡ buf
 
   promised : {n : ℕ} {out : List ℕ} → n ≡ (register_call s u buf).number → out ≡ (register_call s u buf).buffer → Promised n out
-  promised e f = (
-    e,
-    (
-      f,
-      (
-        rw e (register_number s u buf),
-        (
-          rw e (register_accepted s u buf),
-          (λ q. rw f (register_frames s u buf (sym e ∙ q)), λ g. f ∙ register_refused s u buf (λ q. g (e ∙ q))),
-        ),
-      ),
-    ),
-  )
+  promised e f =
+      record {
+        number = e;
+        buffer = f;
+        first = rw e (register_number s u buf);
+        accepted = rw e (register_accepted s u buf);
+        registered = λ q. rw f (register_frames s u buf (sym e ∙ q));
+        untouched = λ g. f ∙ register_refused s u buf (λ q. g (e ∙ q));
+      }
 
-  pub refused_register : (n : ℕ) → n ≡ number_of (registered s u (length buf)) → (n ≡ 0 → ⊥) → Promised n buf
+  pub refused_register : (e : Refusal) → number e ≡ number_of (registered s u (length buf)) → Promised (number e) buf
   unfolding register_call register_by number_of
-  refused_register n e f =
-      let (p, q) = by (registered s u (length buf)) e in promised p q
+  refused_register e p =
+      let (q, r) = by (registered s u (length buf)) p in promised q r
     where
-      by : (a : Answer (List MapEntry)) → n ≡ number_of a → (n ≡ (register_by s u buf a).number) × (buf ≡ (register_by s u buf a).buffer)
+      by : (a : Answer (List MapEntry)) → number e ≡ number_of a → (number e ≡ (register_by s u buf a).number) × (buf ≡ (register_by s u buf a).buffer)
       by (refused k) p = (p, refl)
-      by (given es) p = absurd (f p)
+      by (given es) p = absurd (number_some e p)
 
   made : (g : Ready s u (length buf)) {out : List ℕ} → out ≡ over (register_from (frames (loops_of u)) (map_of s u) g.entries (loops_of u) 0) buf
       → Promised 0 out

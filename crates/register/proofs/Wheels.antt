@@ -1,15 +1,13 @@
 -- A wheel at frame 0, one frame on, and the index that it shows. Assumes nothing.
-use Prim.Native.Nat.{ℕ, ◌+◌, ◌*◌, ◌/◌, ◌%◌, ◌^◌, ◌≤◌, ◌<◌}
+use Prim.Native.Nat.{ℕ, ◌+◌, ◌*◌, ◌/◌, ◌%◌, ◌≤◌, ◌<◌}
 use mathlib.Core.Path.{◌≡◌, sym, ap, ◌∙◌}
 use mathlib.Core.List.{List}
 use native.Mathlib.Nat.{add-zero, mul-add-div_right, mul-add-mod_self_right, mod-eq_of_lt, div-eq_of_lt}
 use native.Mathlib.Omega.{arith}
 use Rattle.format.specs.Frames.{index_at}
-use Rattle.format.specs.Grammar.Loops.{Counted}
 use Rattle.format.specs.declared.Axis.{Axis}
 use Rattle.format.specs.declared.Axis.TheVariants.{T, Z, P}
 use Rattle.format.specs.declared.Loop.{Loop}
-use Rattle.format.proofs.Frames.Triples.{index_most}
 use Rattle.summary.specs.Pacing.{Paced}
 use Rattle.summary.specs.declared.Pace.{Pace}
 use Rattle.register.specs.Turning.{Shows}
@@ -58,7 +56,3 @@ pub record Stand (scene t z : Wheel) (ls : List Loop) (n : ℕ) : Type 0 where
   pub on_p : Shows scene P ls n
   pub on_t : Shows t T ls n
   pub on_z : Shows z Z ls n
-
--- an index has four bytes
-pub shown_fits : {w : Wheel} {a : Axis} {ls : List Loop} {n : ℕ} → Counted ls → Shows w a ls n → w.index < 2 ^ 32
-shown_fits {a = a} {ls = ls} {n = n} c h = omega (arith, shown h, index_most a n ls c)

@@ -1,21 +1,19 @@
 -- Names of frames, read.
-use Rattle.std.specs.Prelude.{ℕ, ◌+◌, ◌^◌, ◌≤◌, ◌<◌, ◌≡◌, List}
+use Rattle.std.specs.Prelude.{ℕ, ◌+◌, ◌^◌, ◌≤◌, ◌<◌, ◌≡◌, List, Option, Some, None}
 use Rattle.format.specs.Frames.{frame_name}
 use Rattle.format.specs.Grammar.Frames.{Decimal}
-use Rattle.register.specs.declared.naming.Framed.{Framed}
-use Rattle.register.specs.declared.naming.Framed.TheVariants.{Number, Other}
 
--- the byte b is the digit of r, or no digit where r is 10 or more
-pub record Digit (b r : ℕ) : Type 0 where
-  pub is : r < 10 → b ≡ 48 + r
-  pub is_none : 10 ≤ r → 48 ≤ b → b ≤ 57 → ⊥
+-- the byte b is the digit of the number, or no digit
+abbrev pub Digit : ℕ → Option ℕ → Type 0
+Digit b (Some d) = (d < 10) × (b ≡ 48 + d)
+Digit b None = 48 ≤ b → b ≤ 57 → ⊥
 
 -- the bytes are the decimal digits of a number below 2^64, or of none
-abbrev pub Spells : List ℕ → Framed → Type 0
-Spells ds (Number k) = Decimal k ds × (k < 2 ^ 64)
-Spells ds Other = (k : ℕ) → k < 2 ^ 64 → Decimal k ds → ⊥
+abbrev pub Spells : List ℕ → Option ℕ → Type 0
+Spells ds (Some k) = Decimal k ds × (k < 2 ^ 64)
+Spells ds None = (k : ℕ) → k < 2 ^ 64 → Decimal k ds → ⊥
 
 -- the bytes are the name of a frame whose number is below 2^64, or of none
-abbrev pub Names : List ℕ → Framed → Type 0
-Names name (Number k) = (name ≡ frame_name k) × (k < 2 ^ 64)
-Names name Other = (k : ℕ) → k < 2 ^ 64 → name ≡ frame_name k → ⊥
+abbrev pub Names : List ℕ → Option ℕ → Type 0
+Names name (Some k) = (name ≡ frame_name k) × (k < 2 ^ 64)
+Names name None = (k : ℕ) → k < 2 ^ 64 → name ≡ frame_name k → ⊥

@@ -1,12 +1,13 @@
 // The register of a file: a record for each frame, of its scene, t and z and of what the map has for it.
 #![tactic(auto)]
 
-ghost use Rattle.std.specs.Prelude.{◌≡◌, List, [], ◌∷◌, ◌++◌, ℕ, ◌+◌, ◌*◌, ◌^◌, ◌≤◌, ◌<◌, length};
+ghost use Rattle.std.specs.Prelude.{◌≡◌, List, [], ◌∷◌, ◌++◌, ℕ, ◌+◌, ◌*◌, ◌≤◌, length, IfOk};
 ghost use Rattle.std.proofs.lemmas.List.Edits.{sets};
 ghost use Rattle.format.specs.Bytes.{le_bytes, over};
 ghost use Rattle.format.specs.Answer.{given, number_of};
+ghost use Rattle.format.specs.Given.{said};
 ghost use Rattle.format.specs.Map.{MapEntry, map_entries};
-ghost use Rattle.format.specs.Frames.{index_at};
+ghost use Rattle.format.specs.Frames.{index_at, frames as framesOf};
 ghost use Rattle.format.specs.Summary.{loops_of};
 ghost use Rattle.format.specs.Calls.Register.{frame_record, register_from, registered, register_call};
 ghost use Rattle.format.specs.Grammar.Loops.{Counted};
@@ -19,18 +20,16 @@ ghost use Rattle.chunk.specs.Scan.{entry_at};
 ghost use Rattle.register.specs.Taking.{Taken};
 
 use chunk::data_of;
-use chunk::map::{Next, map_check, next_entry};
-use cursor::{le8, put4, put8};
-use format::{Axis, Summary, refusal};
-use naming::{Framed, frame_number};
+use chunk::map::{map_check, next_entry};
+use cursor::{le, put};
+use format::refusal::Refusal;
+use format::{Axis, Summary};
+use naming::frame_number;
 use summary::{bad_summary, frames};
-use wheel::{turned, wheel_of};
+use wheel::wheel_of;
 
 mod naming; // the frames that names are of
 mod wheel; // an axis's index, counted up
-
-// The number of a register that is accepted.
-const ACCEPTED: u32 = 0;
 
 // The states of a frame: the map has it, or not.
 const IN_MAP: u64 = 0;
@@ -39,22 +38,22 @@ const ABSENT: u64 = 1;
 
 // Stores a state and an offset.
 fn put_place(buffer: &mut [u8], at: usize, state: u64, offset: u64)
-    requires { (at + 12 ≤ length buffer.old) × (state < 2 ^ 32) }
+    requires { at + 12 ≤ length buffer.old }
     ensures { buffer.new ≡ sets buffer.old at (le_bytes 4 state ++ le_bytes 8 offset) }
 {
-    put4(buffer, at, state);
-    put8(buffer, at + 4, offset);
+    put::<4>(buffer, at, state);
+    put::<8>(buffer, at + 4, offset);
 }
 
 // Stores the record of a frame at these indices, that the map has not.
 fn put_absent(buffer: &mut [u8], at: usize, scene: u64, t: u64, z: u64)
-    requires { (at + 24 ≤ length buffer.old) × (scene < 2 ^ 32) × (t < 2 ^ 32) × (z < 2 ^ 32) }
+    requires { at + 24 ≤ length buffer.old }
     ensures { (m : List ℕ) (ls : List Loop) (n : ℕ) → scene ≡ index_at P n ls → t ≡ index_at T n ls → z ≡ index_at Z n ls
         → buffer.new ≡ sets buffer.old at (frame_record m [] ls n) }
 {
-    put4(buffer, at, scene);
-    put4(buffer, at + 4, t);
-    put4(buffer, at + 8, z);
+    put::<4>(buffer, at, scene);
+    put::<4>(buffer, at + 4, t);
+    put::<4>(buffer, at + 8, z);
     put_place(buffer, at + 12, ABSENT, 0);
 }
 
@@ -66,15 +65,11 @@ fn put_frames(buffer: &mut [u8], u: Summary, count: u64)
     let mut scene = wheel_of(u, Axis::P);
     let mut t = wheel_of(u, Axis::T);
     let mut z = wheel_of(u, Axis::Z);
-    let mut n = 0;
-    let mut at = 0;
-    while n < count {
-        put_absent(buffer, at, scene.index, t.index, z.index);
-        scene = turned(scene);
-        t = turned(t);
-        z = turned(z);
-        at += 24;
-        n += 1;
+    for n in 0..count {
+        put_absent(buffer, 24 * n as usize, scene.index, t.index, z.index);
+        scene.turn();
+        t.turn();
+        z.turn();
     }
 }
 
@@ -84,11 +79,11 @@ fn put_entry(map: &[u8], at: usize, n: usize, buffer: &mut [u8], count: u64)
     ensures { (es : List MapEntry)
         → Taken map.now count es (es ++ entry_at map.now at n ∷ []) buffer.old buffer.new }
 {
-    let Framed::Number(k) = frame_number(map, at, n) else {
+    let Some(k) = frame_number(&map[at..at + n]) else {
         return;
     };
     if k < count {
-        put_place(buffer, 24 * k as usize + 12, IN_MAP, le8(map, at + n));
+        put_place(buffer, 24 * k as usize + 12, IN_MAP, le::<8>(map, at + n));
     }
 }
 
@@ -99,60 +94,42 @@ fn put_entries(map: &[u8], buffer: &mut [u8], count: u64)
         → Taken map.now count [] es buffer.old buffer.new }
 {
     let mut at = 0;
-    let mut entries: u64 = 0;
-    loop {
-        match next_entry(map, at, entries) {
-            Next::Named(n) => {
-                put_entry(map, at, n, buffer, count);
-                at = at + n + 16;
-                entries += 1;
-            }
-            Next::End => return,
-            Next::Broken => return,
-        }
+    let mut entries = 0;
+    while let Ok(Some(n)) = next_entry(map, at, entries) {
+        put_entry(map, at, n, buffer, count);
+        at = at + n + 16;
+        entries += 1;
     }
 }
 
-// The number that a buffer of `room` bytes gives for the records of `count` frames: 0, or 25. 24 × count may pass 2^64.
-fn room_check(room: usize, count: u64) -> u32
-    ensures { (result ≡ 0 → 24 * count ≤ room) × (0 < result → (result ≡ 25) × (room < 24 * count)) }
-{
-    if ((room / 24) as u64) < count {
-        return refusal::BUFFER;
-    }
-    ACCEPTED
-}
-
-// The number of a register's first refusal, of a buffer of `room` bytes.
-fn refused_by(file: &[u8], u: Summary, room: usize) -> u32
-    ensures { result ≡ number_of (registered file.now u room) }
+// How many frames a buffer of `room` bytes gets records of, or the first refusal.
+fn accepted(file: &[u8], u: Summary, room: usize) -> Result<u64, Refusal>
+    ensures number { said result ≡ number_of (registered file.now u room) }
+    ensures count { IfOk result (λ n. n ≡ framesOf (loops_of u)) }
 {
     if bad_summary(file, u) {
-        return refusal::SUMMARY;
+        return Err(Refusal::Summary);
     }
-    let map = data_of(file, u.map.start, u.map.len);
-    let n = map_check(map);
-    if n != ACCEPTED {
-        return n;
+    map_check(data_of(file, u.map.start, u.map.len))?;
+    let count = frames(u);
+    // 24 × count may pass 2^64
+    if ((room / 24) as u64) < count {
+        return Err(Refusal::Buffer);
     }
-    room_check(room, frames(u))
+    Ok(count)
 }
 
-// The record of every frame, in order, into the lent bytes; 0, or the number of the first refusal.
-pub fn register(file: &[u8], u: Summary, buffer: &mut [u8]) -> u32
-    ensures number { result ≡ (register_call file.now u buffer.old).number }
+// The record of every frame, in order, into the lent bytes, or the first refusal.
+pub fn register(file: &[u8], u: Summary, buffer: &mut [u8]) -> Result<(), Refusal>
+    ensures number { said result ≡ (register_call file.now u buffer.old).number }
     ensures buffer { buffer.new ≡ (register_call file.now u buffer.old).buffer }
-    ensures first { First (RegisterRefusal file.now u buffer.old) register_order result }
-    ensures accepted { AcceptedUnless (RegisterRefusal file.now u buffer.old) result }
-    ensures registered { result ≡ 0 → Registered file.now u buffer.old buffer.new }
-    ensures untouched { Refuses result → buffer.new ≡ buffer.old }
+    ensures first { First (RegisterRefusal file.now u buffer.old) register_order (said result) }
+    ensures accepted { AcceptedUnless (RegisterRefusal file.now u buffer.old) (said result) }
+    ensures registered { said result ≡ 0 → Registered file.now u buffer.old buffer.new }
+    ensures untouched { Refuses (said result) → buffer.new ≡ buffer.old }
 {
-    let refused = refused_by(file, u, buffer.len());
-    if refused != ACCEPTED {
-        return refused;
-    }
-    let count = frames(u);
+    let count = accepted(file, u, buffer.len())?;
     put_frames(buffer, u, count);
     put_entries(data_of(file, u.map.start, u.map.len), buffer, count);
-    ACCEPTED
+    Ok(())
 }

@@ -32,35 +32,19 @@ pub fn wheel_of(u: Summary, a: Axis) -> Wheel
     }
 }
 
-// The wheel one frame on.
-pub fn turned(w: Wheel) -> Wheel
-    requires { (w.stood < w.stay) × (w.index < w.count) }
-    ensures { (a : Axis) (ls : List Loop) (n : ℕ) → Shows w a ls n → Shows result a ls (n + 1) }
-{
-    let stay = w.stay;
-    let count = w.count;
-    let stood = w.stood + 1;
-    if stood < stay {
-        return Wheel {
-            stay,
-            count,
-            index: w.index,
-            stood,
-        };
-    }
-    let index = w.index + 1;
-    if index < count {
-        return Wheel {
-            stay,
-            count,
-            index,
-            stood: 0,
-        };
-    }
-    Wheel {
-        stay,
-        count,
-        index: 0,
-        stood: 0,
+impl Wheel {
+    // One frame on.
+    pub fn turn(&mut self)
+        requires { (self.old.stood < self.old.stay) × (self.old.index < self.old.count) }
+        ensures { (a : Axis) (ls : List Loop) (n : ℕ) → Shows self.old a ls n → Shows self.new a ls (n + 1) }
+    {
+        self.stood += 1;
+        if self.stood == self.stay {
+            self.stood = 0;
+            self.index += 1;
+            if self.index == self.count {
+                self.index = 0;
+            }
+        }
     }
 }

@@ -4,4 +4,4 @@ use Rattle.register.proofs.put_absent.Goals as goal
 
 pub returns : goal.returns
 returns c m ls n p t z =
-    stored_record m ls n _ _ p t z c.put4.ensures c.put4-2.ensures c.put4-3.ensures c.put_place.ensures
+    stored_record m ls n _ _ p t z c.put.ensures c.put-2.ensures c.put-3.ensures c.put_place.ensures

@@ -3,4 +3,4 @@ use Rattle.register.proofs.Records.{stored_place}
 use Rattle.register.proofs.put_place.Goals as goal
 
 pub returns : goal.returns
-returns c = stored_place _ _ _ _ c.put4.ensures c.put8.ensures
+returns c = stored_place _ _ _ _ c.put.ensures c.put-2.ensures
