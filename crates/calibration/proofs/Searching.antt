@@ -1,28 +1,15 @@
 -- The search for a z step, level by level. Assumes nothing.
 use Prim.Native.Nat.{ℕ, suc, ◌-◌}
 use mathlib.Core.Path.{◌≡◌, refl, sym, ap, ◌∙◌}
-use mathlib.Core.Bool.{Bool, true, false}
 use mathlib.Core.Option.{Option, none, some, or_else}
 use mathlib.Core.List.{List, [], ◌∷◌}
 use native.Mathlib.Omega.{arith}
 use lib.Ieee.{Float}
 use Rattle.format.specs.Bytes.{ascii}
-use Rattle.format.specs.Values.{Value, field_in, bind}
-use Rattle.format.specs.Numbers.{signed}
-use Rattle.format.specs.Loops.{loop_params, child_levels}
-use Rattle.format.specs.Calibration.{first_of, is_four, own_step, step_at, z_step}
+use Rattle.format.specs.Values.{Value, field_in}
+use Rattle.format.specs.Loops.{child_levels}
+use Rattle.format.specs.Calibration.{first_of, step_at, z_step}
 use Rattle.format.specs.declared.Entry.{Entry}
-
--- ---- what a level states itself
-
-module _ (s : List ℕ) (es : List Entry) (i : ℕ) (four : Bool) (q : four ≡ is_four (bind (field_in s es i (ascii "eType")) signed)) where
-  pub step_other : four ≡ false → none ≡ step_at s es i
-  unfolding step_at own_step
-  step_other e = rw (← q, e) refl
-
-  pub step_params : (p : Option ℕ) → four ≡ true → p ≡ loop_params s es (field_in s es i (ascii "uLoopPars")) → own_step s es true p ≡ step_at s es i
-  unfolding step_at
-  step_params p e h = rw (← q, e, ← h) refl
 
 -- ---- one level, and those below it
 
@@ -43,9 +30,9 @@ module _ (s : List ℕ) (es : List Entry) (i levels : ℕ) where
         go l m e = unfold z_step in rw e refl
 
     -- the level's own step comes first
-    pub step_own : (o : Option Float) (x : Float) → o ≡ some x → o ≡ step_at s es i → o ≡ z_step levels s es i
+    pub step_own : (x : Float) → some x ≡ step_at s es i → some x ≡ z_step levels s es i
     unfolding or_else
-    step_own o x q e = q ∙ sym (step_one ∙ rw (← e, q) refl)
+    step_own x e = sym (step_one ∙ rw (← e) refl)
 
     pub step_below : (f : Option Value) (l : List ℕ) (o : Option Float)
         → none ≡ step_at s es i → f ≡ field_in s es i (ascii "ppNextLevelEx") → child_levels s es f ≡ l → o ≡ first_of (z_step (levels - 1) s es) l
