@@ -1,13 +1,18 @@
 // A name in a file compared with one of ASCII bytes.
-ghost use Rattle.std.specs.Prelude.{◌≡◌, ◌+◌, ◌*◌, ◌≤◌, length};
+ghost use Rattle.std.specs.Prelude.{◌≡◌, ◌+◌, ◌*◌, ◌≤◌, ◌<◌, length};
 ghost use Rattle.format.specs.Bytes.{same};
 ghost use Rattle.format.specs.Text.{units, lossy};
 ghost use Rattle.format.specs.Comparison.{compared_with};
 ghost use Rattle.format.specs.Grammar.Comparison.{Spans};
 
 use crate::unit::unit_at;
-use cursor::wide;
 use format::Comparison;
+
+fn wide(x: u8) -> u64
+    ensures { (result ≡ x) × (result < 256) }
+{
+    u64::from(x)
+}
 
 // The name of n units at `at` and a name of ASCII bytes compared. A byte is no surrogate and not U+FFFD, so a unit equals it as it stands or not at all.
 pub fn compare_ascii(s: &[u8], at: usize, n: usize, name: &[u8]) -> Comparison

@@ -4,7 +4,7 @@ ghost use Rattle.format.specs.Bytes.{le_at};
 ghost use Rattle.format.specs.Text.{units, high_surrogate, low_surrogate, lossy};
 ghost use Rattle.format.specs.Grammar.Comparison.{Reaches};
 
-use cursor::le2;
+use cursor::le;
 
 fn high_surrogate(u: u64) -> bool
     ensures { result ≡ high_surrogate u }
@@ -23,7 +23,7 @@ pub fn unit_at(s: &[u8], at: usize, i: usize) -> u64
     requires { at + 2 * i + 2 ≤ length s.now }
     ensures { result ≡ le_at 2 s.now (at + 2 * i) }
 {
-    le2(s, at + 2 * i)
+    le::<2>(s, at + 2 * i)
 }
 
 // The unit before unit i of the n at `at`, and 0 before the first.
