@@ -46,25 +46,18 @@ module _ (s : List ℕ) (u : Summary) (name bytes : List ℕ) where
   -- the call's number and table, and the sentences that follow
   abbrev pub Promised : ℕ → List ℕ → Type 0
   Promised n out =
-      (n ≡ (tree_call s u name bytes).number) × ((out ≡ (tree_call s u name bytes).buffer) × (FirstAt R tree_order n × (AcceptedUnless (AtSome R) n
-      × ((n ≡ 0 → TreeEntered s u name (length bytes) out) × ((Refuses n → out ≡ zeros (length bytes)) × TreeNamed s u name n)))))
+      (n ≡ (tree_call s u name bytes).number) × (out ≡ (tree_call s u name bytes).buffer) × FirstAt R tree_order n × AcceptedUnless (AtSome R) n
+      × (n ≡ 0 → TreeEntered s u name (length bytes) out) × (Refuses n → out ≡ zeros (length bytes)) × TreeNamed s u name n
 
   promised : {n : ℕ} {out : List ℕ} → n ≡ (tree_call s u name bytes).number → out ≡ (tree_call s u name bytes).buffer → Promised n out
   promised e f = (
     e,
-    (
-      f,
-      (
-        rw e (tree_number s u name bytes),
-        (
-          rw e (tree_accepted s u name bytes),
-          (
-            λ q. rw f (tree_table s u name bytes (sym e ∙ q)),
-            (λ g. f ∙ tree_refused s u name bytes (λ q. g (e ∙ q)), rw e (tree_named_is s u name bytes)),
-          ),
-        ),
-      ),
-    ),
+    f,
+    rw e (tree_number s u name bytes),
+    rw e (tree_accepted s u name bytes),
+    λ q. rw f (tree_table s u name bytes (sym e ∙ q)),
+    λ g. f ∙ tree_refused s u name bytes (λ q. g (e ∙ q)),
+    rw e (tree_named_is s u name bytes),
   )
 
   abbrev tree : Answer (List Entry)

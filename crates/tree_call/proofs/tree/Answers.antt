@@ -5,35 +5,15 @@ use Rattle.tree_call.proofs.Promises.{refused_tree, read_tree}
 use Rattle.tree_call.proofs.tree.Goals as goal
 
 pub clear_behind-requires : goal.clear_behind-requires
-clear_behind-requires c =
-    let r = rw c.in-Entries.is at c.tree_named.ensures in r.holds.rows.room
+clear_behind-requires c = c.in-Ok.ensures.holds.rows.room
 
-pub returns-in-Entries : goal.returns-in-Entries
-returns-in-Entries c =
-    let n = c.tree_named in
-    let r = rw c.in-Entries.is at n.ensures in let it = read_tree _ _ _ _ _ _ r.answer r.front n.auto.table c.clear_behind.ensures in
-    record {
-      number = it.0;
-      buffer = it.1.0;
-      first = it.1.1.0;
-      accepted = it.1.1.1.0;
-      entries = it.1.1.1.1.0;
-      cleared = it.1.1.1.1.1.0;
-      named =
-          it.1.1.1.1.1.1;
-    }
+pub returns-in-Ok : goal.returns-in-Ok
+returns-in-Ok c =
+    let r = c.in-Ok.ensures in
+    let it = read_tree _ _ _ _ _ _ r.answer r.front c.tree_named.auto.table c.clear_behind.ensures in
+    record { number = it.0; buffer = it.1; first = it.2; accepted = it.3; entries = it.4; cleared = it.5; named = it.6 }
 
-pub returns-in-Refused : goal.returns-in-Refused
-returns-in-Refused c =
-    let n = c.tree_named in
-    let r = rw c.in-Refused.is at n.ensures in let it = refused_tree _ _ _ _ r.answer (c.clear.ensures ∙ ap zeros n.auto.table) in
-    record {
-      number = it.0;
-      buffer = it.1.0;
-      first = it.1.1.0;
-      accepted = it.1.1.1.0;
-      entries = it.1.1.1.1.0;
-      cleared = it.1.1.1.1.1.0;
-      named =
-          it.1.1.1.1.1.1;
-    }
+pub returns-in-Err : goal.returns-in-Err
+returns-in-Err c =
+    let it = refused_tree _ _ _ _ c.in-Err.ensures.answer (c.clear.ensures ∙ ap zeros c.tree_named.auto.table) in
+    record { number = it.0; buffer = it.1; first = it.2; accepted = it.3; entries = it.4; cleared = it.5; named = it.6 }
