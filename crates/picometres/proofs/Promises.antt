@@ -1,41 +1,60 @@
 -- What a picometres call's number, size and table promise. Assumes nothing.
 use Prim.Native.Nat.{ℕ}
-use mathlib.Core.Path.{◌≡◌}
+use mathlib.Core.Path.{◌≡◌, refl, ap, ◌∙◌}
 use mathlib.Core.List.{List}
 use lib.ListN.{length}
+use Rattle.std.specs.Prelude.{Result, Ok, Err, IfOk}
+use Rattle.std.specs.Result.{result_unwrap_or}
+use Rattle.format.specs.Answer.{Answer, number_of}
 use Rattle.format.specs.Bytes.{ascii, zeros}
+use Rattle.format.specs.Given.{answer, said}
 use Rattle.format.specs.Trees.{room_in}
-use Rattle.format.specs.Calls.Picometres.{picometres_of, picometres_call}
+use Rattle.format.specs.Calls.Picometres.{picometres_of, picometres_call, size_or_zero}
 use Rattle.format.specs.Refused.Order.{FirstAt}
 use Rattle.format.specs.Refused.Picometres.{PicometresRefusal, picometres_order, SizeIs}
 use Rattle.format.specs.Sentences.{Refuses, AcceptedUnless, AtSome, TreeNamed}
 use Rattle.format.specs.declared.Summary.{Summary}
+use Rattle.format.specs.declared.refusal.Refusal.{Refusal}
 use Rattle.format.proofs.Calls.Picometres.{picometres_number, picometres_accepted, picometres_refused, picometres_size}
 use Rattle.format.proofs.Demands.Misnamed.{picometres_named}
-use Rattle.picometres.specs.Says.{Says}
-use Rattle.picometres.specs.declared.Size.{Size}
+
+-- the number and the size of an answer
+number_is : (r : Result ℕ Refusal) → said r ≡ number_of (answer r)
+unfolding number_of
+number_is (Ok n) = refl
+number_is (Err e) = refl
+
+size_is : (r : Result ℕ Refusal) → result_unwrap_or r 0 ≡ size_or_zero (answer r)
+unfolding size_or_zero
+size_is (Ok n) = refl
+size_is (Err e) = refl
+
+on_ok : (P : ℕ → Type 0) (r : Result ℕ Refusal) → (said r ≡ 0 → P (result_unwrap_or r 0)) → IfOk r P
+on_ok P (Ok n) f = f refl
+on_ok P (Err e) f = tt
 
 module _ (s : List ℕ) (u : Summary) (t : List ℕ) where
   abbrev R : ℕ → Type 0
   R = AtSome (PicometresRefusal s u (room_in (length t)))
 
-  -- the sentences that speak of a number and a size
-  abbrev Sentences : ℕ → ℕ → Type 0
-  Sentences n p =
-      FirstAt (PicometresRefusal s u (room_in (length t))) picometres_order n × (AcceptedUnless R n × ((Refuses n → p ≡ 0)
-      × ((n ≡ 0 → SizeIs s u p) × TreeNamed s u (ascii "ImageCalibrationLV|0!") n)))
-
-  abbrev Promised : Size → List ℕ → Type 0
+  abbrev Promised : Result ℕ Refusal → List ℕ → Type 0
   Promised r out =
-      (r.number ≡ (picometres_call s u t).number) × ((r.picometres ≡ (picometres_call s u t).picometres) × ((out ≡ (picometres_call s u t).table)
-      × ((out ≡ zeros (length t)) × Sentences r.number r.picometres)))
+      (said r ≡ (picometres_call s u t).number) × (result_unwrap_or r 0 ≡ (picometres_call s u t).picometres) × (out ≡ (picometres_call s u t).table)
+      × (out ≡ zeros (length t)) × FirstAt (PicometresRefusal s u (room_in (length t))) picometres_order (said r) × AcceptedUnless R (said r)
+      × (Refuses (said r) → result_unwrap_or r 0 ≡ 0) × IfOk r (SizeIs s u) × TreeNamed s u (ascii "ImageCalibrationLV|0!") (said r)
 
-  sentences : Sentences (picometres_call s u t).number (picometres_call s u t).picometres
-  sentences = (picometres_number s u t, (picometres_accepted s u t, (picometres_refused s u t, (picometres_size s u t, picometres_named s u t))))
-
-  pub promised : {r : Size} {out : List ℕ} → Says r (picometres_of s u (room_in (length t))) → out ≡ zeros (length t) → Promised r out
+  pub promised : (r : Result ℕ Refusal) {out : List ℕ} → answer r ≡ picometres_of s u (room_in (length t)) → out ≡ zeros (length t) → Promised r out
   unfolding picometres_call
-  promised {r} a z =
-      let e : r.number ≡ (picometres_call s u t).number = a.number in
-      let f : r.picometres ≡ (picometres_call s u t).picometres = a.size in
-      (e, (f, (z, (z, rw (e, f) sentences))))
+  promised r q z =
+      let e : said r ≡ (picometres_call s u t).number = number_is r ∙ ap number_of q in
+      let f : result_unwrap_or r 0 ≡ (picometres_call s u t).picometres = size_is r ∙ ap size_or_zero q in (
+        e,
+        f,
+        z,
+        z,
+        rw e (picometres_number s u t),
+        rw e (picometres_accepted s u t),
+        rw (e, f) (picometres_refused s u t),
+        on_ok _ r (rw (e, f) (picometres_size s u t)),
+        rw e (picometres_named s u t),
+      )

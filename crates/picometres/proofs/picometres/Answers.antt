@@ -6,16 +6,5 @@ use Rattle.picometres.proofs.picometres.Goals as goal
 
 pub returns : goal.returns
 returns c =
-    let it = promised _ _ _ c.read_size-said.ensures (c.clear.ensures ∙ ap zeros c.read_size-said.auto.table) in
-    record {
-      number = it.0;
-      size = it.1.0;
-      table = it.1.1.0;
-      cleared = it.1.1.1.0;
-      first = it.1.1.1.1.0;
-      accepted = it.1.1.1.1.1.0;
-      zero =
-          it.1.1.1.1.1.1.0;
-      rounded = it.1.1.1.1.1.1.1.0;
-      named = it.1.1.1.1.1.1.1.1;
-    }
+    let it = promised _ _ _ _ c.read_size-found.ensures (c.clear.ensures ∙ ap zeros c.read_size-found.auto.table) in
+    record { number = it.0; size = it.1; table = it.2; cleared = it.3; first = it.4; accepted = it.5; zero = it.6; rounded = it.7; named = it.8 }

@@ -2,20 +2,16 @@
 use Rattle.format.specs.Bytes.{ascii}
 use Rattle.format.specs.Answer.{and_then}
 use Rattle.format.specs.Calls.Picometres.{picometres_of}
+use Rattle.named_tree.proofs.Answers.{handed}
 use Rattle.picometres.proofs.read_size.Goals as goal
 
 pub size_in-requires : goal.size_in-requires
-size_in-requires c =
-    (rw c.in-Entries.is at c.tree_named.ensures).holds
+size_in-requires c = c.in_ok-used.ensures.holds
 
-pub returns-in-Refused : goal.returns-in-Refused
+pub returns-in_err-used : goal.returns-in_err-used
 unfolding picometres_of and_then ascii
-returns-in-Refused c =
-    let h = rw c.in-Refused.is at c.tree_named.ensures in
-    rw h.answer c.refused.ensures
+returns-in_err-used c = rw (handed c.from_residual.ensures.1, c.in_err-used.ensures.answer)
 
-pub returns-in-Entries : goal.returns-in-Entries
+pub returns : goal.returns
 unfolding picometres_of and_then ascii
-returns-in-Entries c =
-    let h = rw c.in-Entries.is at c.tree_named.ensures in
-    rw h.answer c.size_in.ensures
+returns c = rw c.in_ok-used.ensures.answer c.size_in.ensures

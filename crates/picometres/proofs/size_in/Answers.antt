@@ -1,21 +1,15 @@
 -- `size_in`: no size above 0, a size that no u64 holds, or the size.
-use mathlib.Core.Path.{refl}
-use Rattle.format.specs.Answer.{and_then, or_refuse, number_of}
-use Rattle.format.specs.Calls.Picometres.{picometres_in, size_or_zero}
+use Rattle.format.specs.Answer.{and_then, or_refuse}
+use Rattle.format.specs.Calls.Picometres.{picometres_in}
+use Rattle.named_tree.proofs.Answers.{handed, lacking, asked}
 use Rattle.picometres.proofs.size_in.Goals as goal
 
-pub returns-in_default : goal.returns-in_default
+pub returns-in_err-um : goal.returns-in_err-um
 unfolding picometres_in and_then or_refuse
-returns-in_default c = rw (← c.parse_calibration_um.ensures, c.in_default.is) c.refused.ensures
+returns-in_err-um c =
+    let (none, missing) = lacking _ c.in_err-um.ensures.value in
+    rw (handed c.from_residual.ensures.1, ← c.parse_calibration_um.ensures, none, missing)
 
-pub returns-in-Absent : goal.returns-in-Absent
+pub returns : goal.returns
 unfolding picometres_in and_then or_refuse
-returns-in-Absent c =
-    let s = c.parse_calibration_um.ensures in
-    rw (← s, c.in-Is.is, ← c.picometres.ensures, c.in-Absent.is) c.refused-in-Absent.ensures
-
-pub returns-in-Is-scaled : goal.returns-in-Is-scaled
-unfolding picometres_in and_then or_refuse number_of size_or_zero
-returns-in-Is-scaled c =
-    let s = c.parse_calibration_um.ensures in
-    rw (← s, c.in-Is.is, ← c.picometres.ensures, c.in-Is-scaled.is) (record { number = refl; size = refl })
+returns c = rw (← c.parse_calibration_um.ensures, c.in_ok-um.ensures.ok_part, ← c.picometres.ensures, c.ok_or-2.ensures.value) (asked _ _)
