@@ -7,6 +7,7 @@ use native.Mathlib.Nat.{suc-mul, zero-mul, add-zero, zero-add}
 use native.Mathlib.Omega.{arith}
 use lib.Dec.{ltb}
 use lib.ListN.{length, take, drop, take-append-drop}
+use Rattle.std.proofs.lemmas.List.{length-take-le, take-append-le}
 use lib.Seq.{take-take, drop-drop, drop-length}
 use borrow.Author.Tests.{ltb-true, ltb-false}
 use borrow.Author.Rules.{part_to_end}
@@ -45,8 +46,14 @@ module _ (a e : ℕ) (d q : List ℕ) (within : a ≤ e) (inside : e ≤ length 
 abbrev pub Still : List ℕ → List ℕ → ℕ → ℕ → ℕ → ℕ → Type 0
 Still s d size count k x = (j : ℕ) → k ≤ j → j < count → part d (j * size) x ≡ part s (j * size) x
 
-module _ (s d q : List ℕ) (size count x n k at e : ℕ) (inside : x + n ≤ size) (equal : length s ≡ length d) (whole : count * size ≤ length d) (next : k < count)
-    (start : at ≡ x + k * size) (end : e ≡ at + n) (same : q ≡ part s at (e - at)) where
+module _ (s d q : List ℕ) (size count x n k : ℕ) (inside : x + n ≤ size) (equal : length s ≡ length d) (whole : count * size ≤ length d) (next : k < count)
+    (same : q ≡ part s (x + k * size) (x + k * size + n - (x + k * size))) where
+  abbrev at : ℕ
+  at = x + k * size
+
+  abbrev e : ℕ
+  e = at + n
+
   room : e ≤ length d
   room = omega (arith, turn k count size next)
 
@@ -106,6 +113,10 @@ module _ (s d : List ℕ) (size : ℕ) where
   parts_all q k done m alike ed hd el em eq = rest_all s d q done m (rw (← ed) at (parts_joined k alike)) hd el em eq
 
 -- ---- the front of a list
+
+-- as many of its first bytes as the front of s has, or fewer
+pub front_first : (s d : List ℕ) (m n : ℕ) → m ≤ n → n ≤ length s → take m (take n s ++ d) ≡ take m s
+front_first s d m n h hn = take-append-le m (take n s) d (rw (length-take-le n s hn) h) ∙ take-take m n s h
 
 -- d is s in its first bytes, and the bytes behind them replaced by those of s
 pub front_more : (s d q : List ℕ) (x e : ℕ) → x ≤ e → e ≤ length d → length s ≡ length d → take x d ≡ take x s → q ≡ take (e - x) (drop x s)

@@ -34,31 +34,30 @@ module _ (s : List ℕ) (u : Summary) (scene t c z : ℕ) (buf : List ℕ) where
 
   -- the call's number and buffer, and the sentences that follow
   abbrev pub Promised : ℕ → List ℕ → Type 0
-  Promised n out =
-      (n ≡ (plane_call s u scene t c z buf).number) × ((out ≡ (plane_call s u scene t c z buf).buffer) × (FirstAt R plane_order n × (AcceptedUnless (AtSome R) n
-      × ((n ≡ 0 → PlaneCopied s u scene t c z buf out) × ((Refuses n → out ≡ buf) × FrameNamed s u scene t c z n)))))
+  Promised n out = record {
+    number : n ≡ (plane_call s u scene t c z buf).number;
+    buffer : out ≡ (plane_call s u scene t c z buf).buffer;
+    first : FirstAt R plane_order n;
+    accepted : AcceptedUnless (AtSome R) n;
+    copied : n ≡ 0 → PlaneCopied s u scene t c z buf out;
+    untouched : Refuses n → out ≡ buf;
+    named : FrameNamed s u scene t c z n;
+  }
 
   promised : {n : ℕ} {out : List ℕ} → n ≡ (plane_call s u scene t c z buf).number → out ≡ (plane_call s u scene t c z buf).buffer → Promised n out
-  promised e f = (
-    e,
-    (
-      f,
-      (
-        rw e (plane_number s u scene t c z buf),
-        (
-          rw e (plane_accepted s u scene t c z buf),
-          (
-            λ q. rw f (plane_sample s u scene t c z buf (sym e ∙ q)),
-            (λ g. f ∙ plane_refused s u scene t c z buf (λ q. g (e ∙ q)), rw e (plane_named s u scene t c z buf)),
-          ),
-        ),
-      ),
-    ),
-  )
+  promised e f = record {
+    number = e;
+    buffer = f;
+    first = rw e (plane_number s u scene t c z buf);
+    accepted = rw e (plane_accepted s u scene t c z buf);
+    copied = λ q. rw f (plane_sample s u scene t c z buf (sym e ∙ q));
+    untouched = λ g. f ∙ plane_refused s u scene t c z buf (λ q. g (e ∙ q));
+    named = rw e (plane_named s u scene t c z buf);
+  }
 
-  pub refused_plane : (n : ℕ) → refused n ≡ frame_for s u scene t c z (length buf) → Promised n buf
+  pub refused_plane : {n : ℕ} → refused n ≡ frame_for s u scene t c z (length buf) → Promised n buf
   unfolding plane_call plane_by
-  refused_plane n q = promised (rw (sym q) refl) (rw (sym q) refl)
+  refused_plane q = promised (rw (sym q) refl) (rw (sym q) refl)
 
   pub found_plane : {r : Range} {out : List ℕ} → given r ≡ frame_for s u scene t c z (length buf) → out ≡ over (plane_samples s u c r) buf → Promised 0 out
   unfolding plane_call plane_by

@@ -11,7 +11,6 @@ use Rattle.format.specs.Attributes.{sample_bytes}
 use Rattle.format.specs.Frames.{sample_place}
 use Rattle.format.specs.Summary.{shape_of}
 use Rattle.format.specs.Calls.Plane.{samples, plane_samples}
-use Rattle.format.specs.Grammar.Attributes.{Bits, eight, sixteen, thirtytwo}
 use Rattle.format.specs.declared.Range.{Range}
 use Rattle.format.specs.declared.Attributes.{Attributes}
 use Rattle.format.specs.declared.Summary.{Summary}
@@ -22,12 +21,6 @@ use Rattle.plane.specs.Found.{plane_in, Fit}
 use Rattle.plane.proofs.Rows.{turn, pieces_part, rows_joined}
 
 -- ---- where they are copied
-
--- a sample has four bytes where it has neither 8 nor 16 bits
-pub four_bytes : (b : ℕ) → Bits b → (b ≡ 8 → ⊥) → (b ≡ 16 → ⊥) → 4 ≡ b / 8
-four_bytes b eight f g = absurd (f refl)
-four_bytes b sixteen f g = absurd (g refl)
-four_bytes b thirtytwo f g = refl
 
 module _ {u : Summary} {c len room : ℕ} (f : Fit u c len room) where
   -- sample c lies in its pixel, a row's pixels in the row, and the samples in the buffer

@@ -1,6 +1,6 @@
--- What each answer of this crate stands for, and the samples in a frame's rows.
+-- The frame that a chunk is, and the samples in a frame's rows.
 use Rattle.std.specs.Prelude.{ℕ, ◌*◌, ◌≤◌, ◌<◌, List}
-use Rattle.format.specs.Answer.{Answer, given, refused, refuse_if, and_then}
+use Rattle.format.specs.Answer.{Answer, given, refuse_if, and_then}
 use Rattle.format.specs.Refusals as why
 use Rattle.format.specs.Chunks.{chunk_data}
 use Rattle.format.specs.Attributes.{sample_bytes, plane_bytes}
@@ -10,13 +10,6 @@ use Rattle.format.specs.Grammar.Attributes.{Bits, Shape}
 use Rattle.format.specs.declared.Range.{Range}
 use Rattle.format.specs.declared.Summary.{Summary}
 use Rattle.plane.specs.Pieces.{rows}
-use Rattle.plane.specs.declared.Frame.{Frame}
-use Rattle.plane.specs.declared.Frame.TheVariants.{Data, Refused}
-
--- a frame's data
-abbrev pub frame_answer : Frame → Answer Range
-frame_answer (Data r) = given r
-frame_answer (Refused n) = refused n
 
 -- the frame whose chunk is at the offset o, where it has to bear the name: 4, 29, 4, 24
 unfoldable pub found_at : List ℕ → Summary → List ℕ → ℕ → Answer Range

@@ -16,26 +16,14 @@ const WIDE: usize = 64;
 // Rows of fewer bytes are copied one after another.
 const LONG_ROW: usize = 512;
 
-// Copies src into dst, which is as long.
-fn copy_bytes(src: &[u8], dst: &mut [u8])
-    requires { length src.now ≡ length dst.old }
+// Copies N bytes into dst through a local array. Nothing else lies there, so the compiler reads them in one piece and writes them in one.
+pub fn copy_block<const N: usize>(src: &[u8], dst: &mut [u8])
+    requires { (length src.now ≡ N) × (length dst.old ≡ N) }
     ensures { dst.new ≡ src.now }
 {
-    let mut i = 0;
-    while i < dst.len() {
-        dst[i] = src[i];
-        i += 1;
-    }
-}
-
-// Copies a block into dst through a local array. Nothing else lies there, so the compiler reads the block in one piece and writes it in one.
-fn copy_block(src: &[u8], dst: &mut [u8])
-    requires { (length src.now ≡ 16) × (length dst.old ≡ 16) }
-    ensures { dst.new ≡ src.now }
-{
-    let mut block = [0; BLOCK];
-    copy_bytes(src, &mut block);
-    copy_bytes(&block, dst);
+    let mut block = [0; N];
+    block.copy_from_slice(src);
+    dst.copy_from_slice(&block);
 }
 
 // Copies the block at x of each part of `size` bytes.
@@ -43,13 +31,10 @@ fn copy_blocks(src: &[u8], dst: &mut [u8], size: usize, x: usize)
     requires { (x + 16 ≤ size) × (6 * size ≤ length src.now) × (length src.now ≡ length dst.old) × Alike src.now dst.old size 6 x }
     ensures { Alike src.now dst.new size 6 (x + 16) }
 {
-    let mut k = 0;
-    let mut at = x;
-    while k < PARTS {
+    for k in 0..PARTS {
+        let at = x + k * size;
         let e = at + BLOCK;
-        copy_block(&src[at..e], &mut dst[at..e]);
-        at += size;
-        k += 1;
+        copy_block::<BLOCK>(&src[at..e], &mut dst[at..e]);
     }
 }
 
@@ -60,15 +45,11 @@ pub fn copy_run(src: &[u8], dst: &mut [u8])
 {
     let count = dst.len() / (PARTS * BLOCK);
     let size = count * BLOCK;
-    let mut i = 0;
-    let mut x = 0;
-    while i < count {
-        copy_blocks(src, dst, size, x);
-        x += BLOCK;
-        i += 1;
+    for i in 0..count {
+        copy_blocks(src, dst, size, i * BLOCK);
     }
     let done = PARTS * size;
-    copy_bytes(&src[done..], &mut dst[done..]);
+    dst[done..].copy_from_slice(&src[done..]);
 }
 
 // Copies src into dst, which is as long: `lead` bytes by themselves, so that what is copied in blocks begins where memory takes a block in one piece.
@@ -77,21 +58,11 @@ fn copy_with_lead(src: &[u8], dst: &mut [u8], lead: usize)
     ensures { dst.new ≡ src.now }
 {
     if dst.len() < lead {
-        copy_bytes(src, dst);
+        dst.copy_from_slice(src);
         return;
     }
-    copy_bytes(&src[0..lead], &mut dst[0..lead]);
+    dst[..lead].copy_from_slice(&src[..lead]);
     copy_run(&src[lead..], &mut dst[lead..]);
-}
-
-// Copies a wide block into dst, as a block is copied.
-fn copy_wide(src: &[u8], dst: &mut [u8])
-    requires { (length src.now ≡ 64) × (length dst.old ≡ 64) }
-    ensures { dst.new ≡ src.now }
-{
-    let mut block = [0; WIDE];
-    copy_bytes(src, &mut block);
-    copy_bytes(&block, dst);
 }
 
 // Copies src into dst, which is as long: a wide block at its start, then such blocks from `lead` on, and last the block with which it ends. Blocks may overlap:
@@ -100,15 +71,13 @@ fn copy_long(src: &[u8], dst: &mut [u8], lead: usize)
     requires { (length src.now ≡ length dst.old) × (64 ≤ length dst.old) × (lead ≤ 64) }
     ensures { dst.new ≡ src.now }
 {
-    copy_wide(&src[0..WIDE], &mut dst[0..WIDE]);
-    let mut x = lead;
-    while WIDE <= dst.len() - x {
-        let e = x + WIDE;
-        copy_wide(&src[x..e], &mut dst[x..e]);
-        x = e;
-    }
     let last = dst.len() - WIDE;
-    copy_wide(&src[last..], &mut dst[last..]);
+    copy_block::<WIDE>(&src[..WIDE], &mut dst[..WIDE]);
+    for x in (lead..=last).step_by(WIDE) {
+        let e = x + WIDE;
+        copy_block::<WIDE>(&src[x..e], &mut dst[x..e]);
+    }
+    copy_block::<WIDE>(&src[last..], &mut dst[last..]);
 }
 
 // Copies the first `w` bytes of row k, of `stride` bytes, to the place of row k among rows of `w` bytes. `lead` bytes into dst memory takes a block in one
@@ -136,49 +105,21 @@ fn copy_apart(src: &[u8], dst: &mut [u8], stride: usize, w: usize, count: usize,
 {
     let half = count / 2;
     let turns = count - half;
-    let mut k = 0;
-    while k < turns {
+    for k in 0..turns {
         copy_row(src, dst, stride, w, k, lead);
         copy_row(src, dst, stride, w, half + k, lead);
-        k += 1;
     }
 }
 
-// Copies src into dst, which is as long: a sample of 16 or 32 bits in one piece, as a block is.
-fn copy_piece(src: &[u8], dst: &mut [u8])
-    requires { length src.now ≡ length dst.old }
-    ensures { dst.new ≡ src.now }
+// Copies the first `w` bytes of each of `count` rows of `stride` bytes to the front of dst.
+fn copy_short(src: &[u8], dst: &mut [u8], stride: usize, w: usize, count: usize)
+    requires { (w ≤ stride) × (count * stride ≤ length src.now) × (count * w ≤ length dst.old) }
+    ensures { dst.new ≡ over (pieces src.now 0 stride w count) dst.old }
 {
-    if dst.len() == 2 {
-        let mut sample = [0; 2];
-        copy_bytes(src, &mut sample);
-        copy_bytes(&sample, dst);
-        return;
-    }
-    if dst.len() == 4 {
-        let mut sample = [0; 4];
-        copy_bytes(src, &mut sample);
-        copy_bytes(&sample, dst);
-        return;
-    }
-    copy_bytes(src, dst);
-}
-
-// Copies `count` pieces of `size` bytes, at `at`, at + step, .. in src, to the front of dst.
-pub fn copy_pieces(src: &[u8], dst: &mut [u8], at: usize, step: usize, size: usize, count: usize)
-    requires { (at + size ≤ step) × (count * step ≤ length src.now) × (count * size ≤ length dst.old) }
-    ensures { dst.new ≡ over (pieces src.now at step size count) dst.old }
-{
-    let mut k = 0;
-    let mut from = at;
-    let mut to = 0;
-    while k < count {
-        let e = from + size;
-        let f = to + size;
-        copy_piece(&src[from..e], &mut dst[to..f]);
-        from += step;
-        to = f;
-        k += 1;
+    for k in 0..count {
+        let from = k * stride;
+        let to = k * w;
+        dst[to..to + w].copy_from_slice(&src[from..from + w]);
     }
 }
 
@@ -189,11 +130,11 @@ pub fn copy_whole(src: &[u8], dst: &mut [u8], stride: usize, w: usize, count: us
 {
     if w == stride {
         let n = count * w;
-        copy_with_lead(&src[0..n], &mut dst[0..n], lead);
+        copy_with_lead(&src[..n], &mut dst[..n], lead);
         return;
     }
     if w < LONG_ROW {
-        copy_pieces(src, dst, 0, stride, w, count);
+        copy_short(src, dst, stride, w, count);
         return;
     }
     copy_apart(src, dst, stride, w, count, lead);

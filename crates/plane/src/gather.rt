@@ -4,80 +4,39 @@ ghost use Rattle.std.proofs.lemmas.List.Edits.{sets};
 ghost use Rattle.format.specs.Bytes.{part, over};
 ghost use Rattle.plane.specs.Pieces.{pieces, rows};
 
-use crate::copy::copy_pieces;
+use crate::copy::copy_block;
 
-// Copies four bytes, at `from`, from + step, .. in src, to the place `to` of dst: none waits for the place of the one before it.
-fn copy_four(src: &[u8], dst: &mut [u8], from: usize, step: usize, to: usize)
-    requires { (from + 3 * step < length src.now) × (to + 4 ≤ length dst.old) }
-    ensures { dst.new ≡ sets dst.old to (pieces src.now from step 1 4) }
+// Copies a sample of SIZE bytes, at `from` in src, to the place `to` of dst.
+fn copy_sample<const SIZE: usize>(src: &[u8], dst: &mut [u8], from: usize, to: usize)
+    requires { (from + SIZE ≤ length src.now) × (to + SIZE ≤ length dst.old) }
+    ensures { dst.new ≡ sets dst.old to (part src.now from SIZE) }
 {
-    dst[to] = src[from];
-    dst[to + 1] = src[from + step];
-    dst[to + 2] = src[from + 2 * step];
-    dst[to + 3] = src[from + 3 * step];
+    copy_block::<SIZE>(&src[from..from + SIZE], &mut dst[to..to + SIZE]);
 }
 
-// Copies a sample of 16 bits, at `from` in src, to the place `to` of dst: both bytes are read before one is written, so the compiler copies them in one piece.
-fn copy_word(src: &[u8], dst: &mut [u8], from: usize, to: usize)
-    requires { (from + 2 ≤ length src.now) × (to + 2 ≤ length dst.old) }
-    ensures { dst.new ≡ sets dst.old to (part src.now from 2) }
+// Copies four of them, at `from`, from + step, .. in src: none waits for the place of the one before it.
+fn copy_four<const SIZE: usize>(src: &[u8], dst: &mut [u8], from: usize, step: usize, to: usize)
+    requires { (from + 3 * step + SIZE ≤ length src.now) × (to + 4 * SIZE ≤ length dst.old) }
+    ensures { dst.new ≡ sets dst.old to (pieces src.now from step SIZE 4) }
 {
-    let first = src[from];
-    let second = src[from + 1];
-    dst[to] = first;
-    dst[to + 1] = second;
-}
-
-// Copies four of them, at `from`, from + step, .. in src, as four bytes are.
-fn copy_four_words(src: &[u8], dst: &mut [u8], from: usize, step: usize, to: usize)
-    requires { (from + 3 * step + 2 ≤ length src.now) × (to + 8 ≤ length dst.old) }
-    ensures { dst.new ≡ sets dst.old to (pieces src.now from step 2 4) }
-{
-    copy_word(src, dst, from, to);
-    copy_word(src, dst, from + step, to + 2);
-    copy_word(src, dst, from + 2 * step, to + 4);
-    copy_word(src, dst, from + 3 * step, to + 6);
-}
-
-// Copies a sample of one byte or two, at `from` in src, to the place `to` of dst.
-fn copy_sample(src: &[u8], dst: &mut [u8], from: usize, size: usize, to: usize)
-    requires { (1 ≤ size) × (size ≤ 2) × (from + size ≤ length src.now) × (to + size ≤ length dst.old) }
-    ensures { dst.new ≡ sets dst.old to (part src.now from size) }
-{
-    if size == 1 {
-        dst[to] = src[from];
-        return;
-    }
-    copy_word(src, dst, from, to);
-}
-
-// Copies four of them, at `from`, from + step, .. in src.
-fn copy_four_samples(src: &[u8], dst: &mut [u8], from: usize, step: usize, size: usize, to: usize)
-    requires { (1 ≤ size) × (size ≤ 2) × (from + 3 * step + size ≤ length src.now) × (to + 4 * size ≤ length dst.old) }
-    ensures { dst.new ≡ sets dst.old to (pieces src.now from step size 4) }
-{
-    if size == 1 {
-        copy_four(src, dst, from, step, to);
-        return;
-    }
-    copy_four_words(src, dst, from, step, to);
+    copy_sample::<SIZE>(src, dst, from, to);
+    copy_sample::<SIZE>(src, dst, from + step, to + SIZE);
+    copy_sample::<SIZE>(src, dst, from + 2 * step, to + 2 * SIZE);
+    copy_sample::<SIZE>(src, dst, from + 3 * step, to + 3 * SIZE);
 }
 
 // Copies `count` of them, at `at`, at + step, .. in src, to the front of dst: four at a time, and then the rest.
-fn copy_by_four(src: &[u8], dst: &mut [u8], at: usize, step: usize, size: usize, count: usize)
-    requires { (1 ≤ size) × (size ≤ 2) × (at + size ≤ step) × (count * step ≤ length src.now) × (count * size ≤ length dst.old) }
-    ensures { dst.new ≡ over (pieces src.now at step size count) dst.old }
+fn copy_by_four<const SIZE: usize>(src: &[u8], dst: &mut [u8], at: usize, step: usize, count: usize)
+    requires { (at + SIZE ≤ step) × (count * step ≤ length src.now) × (count * SIZE ≤ length dst.old) }
+    ensures { dst.new ≡ over (pieces src.now at step SIZE count) dst.old }
 {
-    let mut k = 0;
-    let mut from = at;
-    while 4 <= count - k {
-        copy_four_samples(src, dst, from, step, size, k * size);
-        from += 4 * step;
-        k += 4;
+    let fours = count / 4;
+    for i in 0..fours {
+        let k = 4 * i;
+        copy_four::<SIZE>(src, dst, at + k * step, step, k * SIZE);
     }
-    while k < count {
-        copy_sample(src, dst, at + k * step, size, k * size);
-        k += 1;
+    for k in 4 * fours..count {
+        copy_sample::<SIZE>(src, dst, at + k * step, k * SIZE);
     }
 }
 
@@ -86,7 +45,7 @@ fn half(first: u8, second: u8, at: usize) -> u8
     requires { at < 2 }
     ensures { result ≡ get_or (first ∷ (second ∷ [])) at 0 }
 {
-    let pair = first as u16 + 256 * (second as u16);
+    let pair = u16::from(first) + 256 * u16::from(second);
     ((pair >> (8 * at)) % 256) as u8
 }
 
@@ -95,58 +54,50 @@ fn copy_halves(src: &[u8], dst: &mut [u8], at: usize, count: usize)
     requires { (at < 2) × (count * 2 ≤ length src.now) × (count ≤ length dst.old) }
     ensures { dst.new ≡ over (pieces src.now at 2 1 count) dst.old }
 {
-    let mut k = 0;
-    while k < count {
+    for k in 0..count {
         dst[k] = half(src[2 * k], src[2 * k + 1], at);
-        k += 1;
     }
 }
 
-// Copies `count` samples of `size` bytes, at `at`, at + step, .. in src, to the front of dst. Every second sample of 16 bits goes piece by piece, which the
+// Copies `count` samples of SIZE bytes, at `at`, at + step, .. in src, to the front of dst. Every second sample of 16 bits goes one after another, which the
 // compiler makes many at once of.
-fn copy_spread(src: &[u8], dst: &mut [u8], at: usize, step: usize, size: usize, count: usize)
-    requires { (at + size ≤ step) × (count * step ≤ length src.now) × (count * size ≤ length dst.old) }
-    ensures { dst.new ≡ over (pieces src.now at step size count) dst.old }
+fn copy_spread<const SIZE: usize>(src: &[u8], dst: &mut [u8], at: usize, step: usize, count: usize)
+    requires { (at + SIZE ≤ step) × (count * step ≤ length src.now) × (count * SIZE ≤ length dst.old) }
+    ensures { dst.new ≡ over (pieces src.now at step SIZE count) dst.old }
 {
-    if size == 1 {
-        if step == 2 {
-            copy_halves(src, dst, at, count);
-            return;
-        }
-        copy_by_four(src, dst, at, step, 1, count);
+    if SIZE == 1 && step == 2 {
+        copy_halves(src, dst, at, count);
         return;
     }
-    if size == 2 && step != 4 {
-        copy_by_four(src, dst, at, step, 2, count);
+    if SIZE == 1 || SIZE == 2 && step != 4 {
+        copy_by_four::<SIZE>(src, dst, at, step, count);
         return;
     }
-    copy_pieces(src, dst, at, step, size, count);
+    for k in 0..count {
+        let from = at + k * step;
+        copy_sample::<SIZE>(src, dst, from, k * SIZE);
+    }
 }
 
-// Copies one component of each row: a row is `stride` bytes, and its `width` samples of `size` bytes are `step` bytes apart.
-pub fn gather_rows(
+// Copies one component of each row: a row is `stride` bytes, and its `width` samples of SIZE bytes are `step` bytes apart.
+pub fn gather_rows<const SIZE: usize>(
     src: &[u8],
     dst: &mut [u8],
     stride: usize,
     at: usize,
     step: usize,
-    size: usize,
     width: usize,
     height: usize,
 )
-    requires { (at + size ≤ step) × (width * step ≤ stride) × (height * stride ≤ length src.now) × (height * (width * size) ≤ length dst.old) }
-    ensures { dst.new ≡ over (rows src.now at stride step size width height) dst.old }
+    requires { (at + SIZE ≤ step) × (width * step ≤ stride) × (height * stride ≤ length src.now) × (height * (width * SIZE) ≤ length dst.old) }
+    ensures { dst.new ≡ over (rows src.now at stride step SIZE width height) dst.old }
 {
-    let w = width * size;
-    let mut y = 0;
-    let mut from = 0;
-    let mut to = 0;
-    while y < height {
+    let w = width * SIZE;
+    for y in 0..height {
+        let from = y * stride;
+        let to = y * w;
         let e = from + stride;
         let f = to + w;
-        copy_spread(&src[from..e], &mut dst[to..f], at, step, size, width);
-        from = e;
-        to = f;
-        y += 1;
+        copy_spread::<SIZE>(&src[from..e], &mut dst[to..f], at, step, width);
     }
 }

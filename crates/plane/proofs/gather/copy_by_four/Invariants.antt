@@ -1,21 +1,11 @@
 use mathlib.Core.Path.{◌≡◌}
-use Prim.Native.Nat.{◌+◌, ◌*◌, ◌≤◌, ◌-◌}
-use lib.ListN.{length}
+use Prim.Native.Nat.{◌*◌}
 use Rattle.format.specs.Bytes.{over}
 use Rattle.plane.specs.Pieces.{pieces}
 use Rattle.plane.proofs.gather.copy_by_four.Given as goal
 
+abbrev pub invariant-loop-i : goal.invariant-loop-i
+invariant-loop-i g l = l.dst ≡ over (pieces l.src l.at l.step g.row.SIZE (4 * l.i)) l.fn.dst
+
 abbrev pub invariant-loop-k : goal.invariant-loop-k
-invariant-loop-k l =
-    (l.k ≤ l.count) × (l.from ≡ l.at + l.k * l.step) × (length l.dst ≡ length l.initial.dst)
-    × (l.dst ≡ over (pieces l.src l.at l.step l.size l.k) l.initial.dst)
-
-abbrev pub decreases-loop-k : goal.decreases-loop-k
-decreases-loop-k l = l.count - l.k
-
-abbrev pub invariant-loop-k-2 : goal.invariant-loop-k-2
-invariant-loop-k-2 l =
-    (l.initial.k ≤ l.k) × (l.k ≤ l.count) × (length l.dst ≡ length l.initial.dst) × (l.dst ≡ over (pieces l.src l.at l.step l.size l.k) l.initial.dst)
-
-abbrev pub decreases-loop-k-2 : goal.decreases-loop-k-2
-decreases-loop-k-2 l = l.count - l.k
+invariant-loop-k g l = l.dst ≡ over (pieces l.src l.at l.step g.row.SIZE l.k) l.fn.dst

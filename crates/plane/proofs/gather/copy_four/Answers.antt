@@ -1,21 +1,10 @@
--- `copy_four`: each byte behind the one before it.
-use mathlib.Core.Path.{refl}
-use native.Mathlib.Numerals.{towards_suc}
-use native.Mathlib.Omega.{arith}
-use lib.ListN.{length-set}
-use Rattle.plane.proofs.Rows.{four_pieces}
+-- `copy_four`: each sample behind the one before it.
+use mathlib.Core.Path.{◌∙◌}
+use Rattle.plane.proofs.Rows.{four_stored}
 use Rattle.plane.proofs.gather.copy_four.Goals as goal
 
-pub bounds-dst-to-2 : goal.bounds-dst-to-2
-bounds-dst-to-2 c = simp length-set (omega arith)
-
-pub bounds-dst-to-3 : goal.bounds-dst-to-3
-bounds-dst-to-3 c = simp length-set (omega arith)
-
-pub bounds-dst-to-4 : goal.bounds-dst-to-4
-bounds-dst-to-4 c = simp length-set (omega arith)
-
 pub returns : goal.returns
-returns c =
+returns g c =
     let a = c.args in
-    rw (four_pieces a.src.now a.from a.step c.requires.0) (simp towards_suc refl)
+    c.copy_sample-4.ensures ∙ rw (c.copy_sample-3.ensures, c.copy_sample-2.ensures, c.copy_sample.ensures)
+    (four_stored a.src.now a.dst.now a.from a.step g.row.SIZE a.to c.requires.0)

@@ -1,16 +1,10 @@
--- `copy_sample`: a byte or a word.
-use mathlib.Core.Path.{◌≡◌, refl}
-use native.Mathlib.Omega.{arith}
-use Rattle.plane.proofs.Rows.{one}
+-- `copy_sample`: its bytes are stored.
+use Rattle.format.specs.Bytes.{part}
+use Rattle.plane.proofs.Rows.{put_stored}
 use Rattle.plane.proofs.gather.copy_sample.Goals as goal
 
-pub returns-then-size-eq1 : goal.returns-then-size-eq1
-returns-then-size-eq1 c =
-    let a = c.args in
-    let single : a.size ≡ 1 = c.if-size-eq1.true in
-    rw (single, one a.src.now a.from (omega arith)) refl
-
 pub returns : goal.returns
-returns c =
-    let two : c.args.size ≡ 2 = omega (arith, c.requires.0, c.requires.1, c.if-size-eq1.false) in
-    rw two c.copy_word.ensures
+unfolding part
+returns g c =
+    let a = c.args in
+    put_stored a.src.now a.dst.now c.copy_block.new.dst a.from a.to g.row.SIZE c.requires.0 c.requires.1 c.copy_block.ensures
