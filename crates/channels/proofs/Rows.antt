@@ -2,6 +2,7 @@
 use Prim.Native.Nat.{ℕ, zero, suc, ◌+◌, ◌-◌, ◌≤◌, ◌<◌, min}
 use mathlib.Core.Path.{◌≡◌, refl, sym, ap, ◌∙◌}
 use mathlib.Core.List.{List, [], ◌∷◌, ◌++◌}
+use native.Mathlib.Decide.{dec_lt}
 use native.Mathlib.Omega.{arith}
 use lib.ListN.{get_or, replicate, get_or-eq_default}
 use lib.Seq.{get_or-take, ext_get_or}
@@ -134,3 +135,11 @@ module _ (s t : List ℕ) (first : Planes) where
 -- behind a row's end
 pub past_row : (n : ℕ) (cs : List Channel) (k : ℕ) → n ≤ k → empty_channel ≡ get_or (fitted n cs) k empty_channel
 past_row n cs k h = sym (get_or-eq_default (fitted n cs) empty_channel (rw (fitted_length n cs) h))
+
+-- a row of a walk that has nothing before it
+pub none_row : (s t : List ℕ) (n k : ℕ) → empty_channel ≡ get_or (fitted n (ahead s t no_planes)) k empty_channel
+none_row s t n k = by (dec_lt k n)
+  where
+    by : Dec (k < n) → empty_channel ≡ get_or (fitted n (ahead s t no_planes)) k empty_channel
+    by (yes h) = sym (fitted_at n (ahead s t no_planes) k h ∙ none_at s t k)
+    by (no h) = past_row n (ahead s t no_planes) k (omega arith)

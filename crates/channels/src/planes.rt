@@ -1,5 +1,5 @@
 // A walk over the components, by the plane records of a tree.
-ghost use Rattle.std.specs.Prelude.{◌≡◌, ℕ, min, get_or};
+ghost use Rattle.std.specs.Prelude.{◌≡◌, ℕ, get_or};
 ghost use Rattle.format.specs.Channels.{empty_channel, covered, planes_level, plane_records};
 ghost use Rattle.lookup.specs.Table.{entry_in, entries_in, Holds, found, Within};
 ghost use Rattle.lookup.specs.Walks.{Standing};
@@ -9,7 +9,7 @@ use super::record::{channel_of, covers_of, no_channel};
 use format::Channel;
 use lookup::child::{children, next_child};
 use lookup::level::get_level;
-use lookup::{ClxValue, Field, Found, Next, Turn};
+use lookup::{ClxValue, Turn};
 
 // The components that a walk has before it: the next one's record, to how many more that record goes, and where the walk stands after these, with so many
 // components left at the most. The table has `used` entries.
@@ -36,30 +36,14 @@ pub fn no_planes() -> Planes
 }
 
 // The level whose children are the planes.
-fn planes_level(file: &[u8], table: &[u8], used: usize) -> Found
+fn planes_level(file: &[u8], table: &[u8], used: usize) -> Option<usize>
     requires { Holds file.now table.now used }
     ensures { (found result ≡ planes_level file.now (entries_in table.now used)) × Within used result }
 {
-    let Found::At(i) = get_level(file, table, used, 0, b"SLxPictureMetadata") else {
-        return Found::Nothing;
-    };
-    let Found::At(j) = get_level(file, table, used, i + 1, b"sPicturePlanes") else {
-        return Found::Nothing;
-    };
-    match get_level(file, table, used, j + 1, b"sPlaneNew") {
-        Found::At(k) => Found::At(k),
-        Found::Nothing => get_level(file, table, used, j + 1, b"sPlane"),
-    }
-}
-
-// The smaller of two counts.
-fn at_most(n: u64, most: u64) -> u64
-    ensures { result ≡ min n most }
-{
-    if n < most {
-        return n;
-    }
-    most
+    let i = get_level(file, table, used, 0, b"SLxPictureMetadata")?;
+    let j = get_level(file, table, used, i + 1, b"sPicturePlanes")?;
+    let new = get_level(file, table, used, j + 1, b"sPlaneNew");
+    new.or_else(|| get_level(file, table, used, j + 1, b"sPlane"))
 }
 
 // The records that the planes from `turn` on give to `most` components.
@@ -72,18 +56,16 @@ fn planes_from(file: &[u8], table: &[u8], used: usize, turn: Turn, most: u64) ->
     if most == 0 {
         return no_planes();
     }
-    match next_child(file, table, used, turn) {
-        Next::End => no_planes(),
-        Next::Child(i, rest) => {
-            let n = at_most(covers_of(file, table, used, i), most);
-            Planes {
-                channel: channel_of(file, table, used, i),
-                again: n - 1,
-                rest,
-                left: most - n,
-                used,
-            }
-        }
+    let Some((i, rest)) = next_child(file, table, used, turn) else {
+        return no_planes();
+    };
+    let n = covers_of(file, table, used, i).min(most);
+    Planes {
+        channel: channel_of(file, table, used, i),
+        again: n - 1,
+        rest,
+        left: most - n,
+        used,
     }
 }
 
@@ -92,17 +74,12 @@ pub fn next_component(file: &[u8], table: &[u8], p: Planes) -> Planes
     requires { Stands file.now table.now p }
     ensures { Follows file.now table.now p result }
 {
-    let turn = p.rest;
     if p.again == 0 {
-        return planes_from(file, table, p.used, turn, p.left);
+        return planes_from(file, table, p.used, p.rest, p.left);
     }
-    let c = p.channel;
     Planes {
-        channel: c,
         again: p.again - 1,
-        rest: turn,
-        left: p.left,
-        used: p.used,
+        ..p
     }
 }
 
@@ -113,11 +90,9 @@ pub fn planes_in(file: &[u8], table: &[u8], used: usize, most: u64) -> Planes
         × ((k : ℕ) → record_of file.now table.now result k
         ≡ get_or (covered most (plane_records file.now (entries_in table.now used))) k empty_channel) }
 {
-    match planes_level(file, table, used) {
-        Found::Nothing => no_planes(),
-        Found::At(i) => {
-            let turn = children(file, table, used, Field::Is(ClxValue::Level(i)));
-            planes_from(file, table, used, turn, most)
-        }
-    }
+    let Some(i) = planes_level(file, table, used) else {
+        return no_planes();
+    };
+    let turn = children(file, table, used, Some(ClxValue::Level(i)));
+    planes_from(file, table, used, turn, most)
 }

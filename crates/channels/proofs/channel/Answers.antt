@@ -1,24 +1,13 @@
 -- `channels::channel`: what the call's number and row promise, of one record.
 use mathlib.Core.Path.{ap, ◌∙◌}
+use borrow.Author.Rules.{rules}
 use Rattle.format.specs.Bytes.{zeros}
 use Rattle.channels.proofs.Promises.{one_record}
 use Rattle.channels.proofs.channel.Goals as goal
 
 pub returns : goal.returns
 returns c =
-    let e = c.ended.ensures in
     let a = c.args in
-    let z = e.2 ∙ ap zeros c.prepare-p.auto.table in
-    let it = one_record a.file.now a.u a.table.now a.row a.i c.prepare-p.ensures e.0 (e.1 ∙ c.record_at-c.ensures) z in
-    -- the sentences
-    let s = it.1.1.1 in
-    record {
-      number = it.0;
-      «record» = it.1.0;
-      cleared = it.1.1.0;
-      first = s.0;
-      accepted = s.1.0;
-      empty = s.1.1.0;
-      records = s.1.1.1.0;
-      named = s.1.1.1.1;
-    }
+    let by = one_record a.file.now a.u a.table.now a.row a.i c.prepare-planes.result c.map-c.result c.prepare-planes.ensures c.map-c.ensures.cases in
+    let it = by (λ w r p. search rules) (c.clear.ensures ∙ ap zeros c.prepare-planes.auto.table) in
+    record { number = it.0; «record» = it.1; cleared = it.2; first = it.3; accepted = it.4; empty = it.5; records = it.6; named = it.7 }

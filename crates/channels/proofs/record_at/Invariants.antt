@@ -1,10 +1,6 @@
--- `channels::record_at`: after k steps the walk has the records from number k on before it.
-use Prim.Native.Nat.{◌-◌, ◌≤◌}
+-- `channels::record_at`: after so many steps the walk has the records from that number on before it.
 use Rattle.channels.proofs.Rows.{On}
 use Rattle.channels.proofs.record_at.Given as goal
 
-abbrev pub invariant-loop-k : goal.invariant-loop-k
-invariant-loop-k l = (l.k ≤ l.i) × On l.file l.table l.initial.p l.k l.p
-
-abbrev pub decreases-loop-k : goal.decreases-loop-k
-decreases-loop-k l = l.i - l.k
+abbrev pub invariant-loop : goal.invariant-loop
+invariant-loop l = On l.file l.table l.initial.p l.counter l.p

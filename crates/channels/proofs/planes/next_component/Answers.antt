@@ -7,5 +7,4 @@ pub returns-then-p-eq0 : goal.returns-then-p-eq0
 returns-then-p-eq0 c = next_planes _ _ c.if-p-eq0.true c.planes_from.ensures
 
 pub returns : goal.returns
-returns c =
-    same_plane _ _ c.requires c.if-p-eq0.false refl
+returns c = same_plane _ _ c.requires c.if-p-eq0.false refl
