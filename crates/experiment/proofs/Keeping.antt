@@ -14,6 +14,7 @@ use Rattle.format.specs.Given.{number}
 use Rattle.format.specs.Refusals as why
 use Rattle.format.specs.Loops.{Built, append, axis_of, has_axis, judge}
 use Rattle.format.specs.Summary.{in_three, no_loop}
+use Rattle.format.specs.declared.Axis.{Axis}
 use Rattle.format.specs.declared.Loop.{Loop}
 use Rattle.format.specs.declared.refusal.Refusal.{Refusal}
 use Rattle.format.proofs.Ground.Answers.{refused≢given, given_inj}
@@ -67,19 +68,26 @@ judged_err : (b : Built) (bs : List Built) (n : ℕ) → refused n ≡ handed (j
 unfolding and_then
 judged_err b bs n e = rw (judge_last b bs, handed_err (judge [] (reverse bs)) n e) refl
 
+-- k in the next place
+abbrev one_more : Loop → Loops → Loops
+one_more k l = record { loops = set l.loops l.depth k; depth = l.depth + 1 }
+
 -- what is known of loops that were judged
-pub record Fine (bs : List Built) (l : Loops) : Type 0 where
+record Fine (bs : List Built) (l : Loops) : Type 0 where
   pub kept : List Loop
   pub given_is : judge [] (reverse bs) ≡ given kept
   pub places : l ≡ placed kept
   pub few : length kept ≤ 3
 
-pub fine : (bs : List Built) (l : Loops) → Judged (std.Ok l) bs → Fine bs l
+fine : (bs : List Built) (l : Loops) → Judged (std.Ok l) bs → Fine bs l
 fine bs l t =
     let (ms, q, p) = handed_ok (judge [] (reverse bs)) l t in
     record { kept = ms; given_is = q; places = p; few = judge_few (reverse bs) ms q }
 
-module _ (bs : List Built) (l : Loops) (f : Fine bs l) where
+module _ (bs : List Built) (l : Loops) (t : Judged (std.Ok l) bs) where
+  abbrev f : Fine bs l
+  f = fine bs l t
+
   depth_is : l.depth ≡ length f.kept
   depth_is = ap (λ (l : Loops). l.depth) f.places
 
@@ -89,8 +97,8 @@ module _ (bs : List Built) (l : Loops) (f : Fine bs l) where
   pub next_few : l.depth ≤ 3
   next_few = omega (arith, depth_is, f.few)
 
-  pub next_room : (t : ℕ) → has_axis (axis_of t) (take l.depth l.loops) ≡ false → l.depth < 3
-  next_room t h = omega (arith, judge_room (reverse bs) f.kept (axis_of t) f.given_is (rw in_use at h), depth_is)
+  pub next_room : (a : Axis) → has_axis a (take l.depth l.loops) ≡ false → l.depth < 3
+  next_room a h = omega (arith, judge_room (reverse bs) f.kept a f.given_is (rw in_use at h), depth_is)
 
   module _ (b : Built) where
     pub next_custom : eqb b.kind 7 ≡ true → refused why.loop_kind ≡ handed (judge [] (reverse (b ∷ bs)))
@@ -103,14 +111,13 @@ module _ (bs : List Built) (l : Loops) (f : Fine bs l) where
       next_twice h = rw (judge_next b bs f.kept f.given_is, other, rw in_use at h) refl
 
       pub next_kept : has_axis (axis_of b.kind) (take l.depth l.loops) ≡ false
-          → given (record { loops = set l.loops l.depth (record { axis = axis_of b.kind; count = b.count }); depth = l.depth + 1 })
-          ≡ handed (judge [] (reverse (b ∷ bs)))
+          → given (one_more (record { axis = axis_of b.kind; count = b.count }) l) ≡ handed (judge [] (reverse (b ∷ bs)))
       unfolding refuse_if
       next_kept h =
           let k : Loop = record { axis = axis_of b.kind; count = b.count } in
-          let room : length f.kept < 3 = omega (arith, next_room b.kind h, depth_is) in
-          rw (judge_next b bs f.kept f.given_is, other, rw in_use at h) (ap (λ (l : Loops). given (record { loops = set l.loops l.depth k; depth = l.depth + 1 })) f.places
-          ∙ rw (stored f.kept k room, length-append f.kept (k ∷ [])) refl)
+          let room : length f.kept < 3 = omega (arith, next_room (axis_of b.kind) h, depth_is) in
+          rw (judge_next b bs f.kept f.given_is, other, rw in_use at h)
+          (ap (λ (l : Loops). given (one_more k l)) f.places ∙ rw (stored f.kept k room, length-append f.kept (k ∷ [])) refl)
 
 -- ---- a larger count of the last one
 
@@ -120,6 +127,13 @@ module _ (b : Built) (bs : List Built) (c : ℕ) where
 
   abbrev wide : Loop
   wide = record { axis = axis_of b.kind; count = max b.count c }
+
+  -- the larger count in the last place
+  abbrev last_wider : Loops → Loops
+  last_wider l =
+      let n = l.depth - 1 in
+      let k = get_or l.loops n no_loop in
+      record { loops = set l.loops n (record { axis = k.axis; count = max k.count c }); depth = l.depth }
 
   alike : Alike (axis_of b.kind) b.count (max b.count c) (judge [] (reverse (b ∷ bs))) (judge [] (reverse (larger b c ∷ bs)))
   alike = judge_count b.kind b.nesting b.count (max b.count c) bs
@@ -156,26 +170,15 @@ module _ (b : Built) (bs : List Built) (c : ℕ) where
     pub wider_room : l.depth - 1 < 3
     wider_room = omega (arith, depth_one, place.room)
 
-    pub wider_kept : given (record {
-      loops = set l.loops (l.depth - 1) (record { axis = (get_or l.loops (l.depth - 1) no_loop).axis; count = max (get_or l.loops (l.depth - 1) no_loop).count c });
-      depth = l.depth;
-    })
-        ≡ handed (judge [] (reverse (larger b c ∷ bs)))
+    pub wider_kept : given (last_wider l) ≡ handed (judge [] (reverse (larger b c ∷ bs)))
     wider_kept = go place.before place.room place.places place.widened
       where
         go : (ms : List Loop) → length ms < 3 → l ≡ placed (ms ++ narrow ∷ []) → judge [] (reverse (larger b c ∷ bs)) ≡ given (ms ++ wide ∷ [])
-            → given (record {
-              loops = set l.loops (l.depth - 1) (record { axis = (get_or l.loops (l.depth - 1) no_loop).axis; count = max (get_or l.loops (l.depth - 1) no_loop).count c });
-              depth = l.depth;
-            })
-            ≡ handed (judge [] (reverse (larger b c ∷ bs)))
+            → given (last_wider l) ≡ handed (judge [] (reverse (larger b c ∷ bs)))
         go ms r q e =
             let n : length (ms ++ narrow ∷ []) - 1 ≡ length ms = omega (arith, length-append ms (narrow ∷ [])) in
             rw e
-            (ap (λ (l : Loops). given (record {
-              loops = set l.loops (l.depth - 1) (record { axis = (get_or l.loops (l.depth - 1) no_loop).axis; count = max (get_or l.loops (l.depth - 1) no_loop).count c });
-              depth = l.depth;
-            })) q
+            (ap (λ (l : Loops). given (last_wider l)) q
             ∙ rw (n, last_there ms narrow r, replaced ms narrow r wide, length-append ms (narrow ∷ []), length-append ms (wide ∷ [])) refl)
 
 -- ---- what is done with a loop of the walk
@@ -200,7 +203,8 @@ pub append_deeper : (t c n : ℕ) (k r : Kept) (bs : List Built) → Stands k bs
 unfolding append
 append_deeper t c n k r bs s h g = go k.last refl bs s.last g
   where
-    go : (l : std.Option Appended) → k.last ≡ l → (bs : List Built) → Last l bs → Stands r (record { kind = t; count = c; nesting = n } ∷ bs) → Stands r (append t c n bs)
+    go : (l : std.Option Appended) → k.last ≡ l → (bs : List Built) → Last l bs → Stands r (record { kind = t; count = c; nesting = n } ∷ bs)
+        → Stands r (append t c n bs)
     go std.None q [] none g = g
     go std.None q (b ∷ bs) l g = elim l [ ]
     go (std.Some a) q [] l g = elim l [ ]
@@ -215,7 +219,8 @@ module _ (t c n : ℕ) (k : Kept) (a : Appended) (q : k.last ≡ std.Some a) (h 
 
   -- the larger count where both nesting and type are the same
   pub append_same : (r : std.Result Loops Refusal) → (eqb (number_of a.kind) t && eqb a.nesting n) ≡ true
-      → ((b : Built) (bs : List Built) → Judged k.judged (b ∷ bs) → Judged r (larger b c ∷ bs)) → Stands (record { last = k.last; judged = r }) (append t c n bs)
+      → ((b : Built) (bs : List Built) → Judged k.judged (b ∷ bs) → Judged r (larger b c ∷ bs))
+      → Stands (record { last = k.last; judged = r }) (append t c n bs)
   append_same r e f = go bs (rw q at s.last) s.judged
     where
       go : (bs : List Built) → Last (std.Some a) bs → Judged k.judged bs → Stands (record { last = k.last; judged = r }) (append t c n bs)

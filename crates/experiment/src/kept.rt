@@ -57,7 +57,8 @@ fn has_axis(kept: Loops, axis: Axis) -> bool
 }
 
 // The loops and one more, judged as the next in order: a custom one is refused, and one on an axis that came before.
-fn with_next(kept: Loops, kind: LoopKind, count: u64) -> Result<Loops, Refusal>
+#[tactic(auto, using(crate::proofs::Keeping::next_few, crate::proofs::Keeping::next_room))]
+fn with_next(mut kept: Loops, kind: LoopKind, count: u64) -> Result<Loops, Refusal>
     requires { (bs : List Built) × Judged (Ok kept) bs }
     ensures { (b : Built) (bs : List Built) → Judged (Ok kept) bs → b.kind ≡ number_of kind → b.count ≡ count → Judged result (b ∷ bs) }
 {
@@ -68,7 +69,6 @@ fn with_next(kept: Loops, kind: LoopKind, count: u64) -> Result<Loops, Refusal>
     if has_axis(kept, axis) {
         return Err(Refusal::AxisTwice);
     }
-    let mut kept = kept;
     kept.loops[kept.depth as usize] = Loop { axis, count };
     kept.depth += 1;
     Ok(kept)
@@ -86,11 +86,11 @@ fn push(kept: Kept, kind: LoopKind, count: u64, nesting: u64) -> Kept
 }
 
 // The loops, of which the last one has the larger count.
-fn widened(kept: Loops, count: u64) -> Loops
+#[tactic(auto, using(crate::proofs::Keeping::wider_some, crate::proofs::Keeping::wider_room))]
+fn widened(mut kept: Loops, count: u64) -> Loops
     requires { (b : Built) × (bs : List Built) × Judged (Ok kept) (b ∷ bs) }
     ensures { (b : Built) (bs : List Built) → Judged (Ok kept) (b ∷ bs) → Judged (Ok result) (larger b count ∷ bs) }
 {
-    let mut kept = kept;
     let last = kept.depth as usize - 1;
     kept.loops[last].count = kept.loops[last].count.max(count);
     kept

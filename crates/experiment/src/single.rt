@@ -31,7 +31,7 @@ pub struct Single {
 // ---- the parameters
 
 // The level that a list's only element is.
-#[tactic(auto, using(crate::proofs::Counts::only_none, crate::proofs::Counts::only_one, crate::proofs::Counts::only_more))]
+#[tactic(auto, using(crate::proofs::Counts::only_none, crate::proofs::Counts::only_more))]
 fn only_level(table: &[u8], used: usize, parent: usize) -> Option<usize>
     requires { Rows table.now used × (parent ≤ used) }
     ensures { ((s : List ℕ) → found result ≡ loop_params s (entries_in table.now used)

@@ -12,5 +12,6 @@ pub returns : goal.returns
 returns c =
     let a = c.args in
     let ls = take a.kept.depth a.kept.loops in
-    any_from_yields_List (λ l. same_axis l.axis a.axis) _ _ _ c.any.ensures.ran (YieldsList-from_slice ls cc) (λ x b q h. (search rules, search (rules, same_is)))
+    any_from_yields_List (λ l. same_axis l.axis a.axis) _ _ _ c.any.ensures.ran (YieldsList-from_slice ls cc)
+    (λ x b q h. (search rules, search (rules, same_is)))
     ∙ sym (has_is a.axis ls)
