@@ -1,4 +1,3 @@
 pub mod Heads
-pub mod Finding
 pub mod Promises
 pub mod Reading

@@ -30,36 +30,32 @@ module _ (s : List ℕ) (u : Summary) (scene t c z : ℕ) (lent : List ℕ) wher
 
   -- the call's number and buffer, and the sentences that follow
   abbrev pub Promised : ℕ → List ℕ → Type 0
-  Promised n out =
-      (n ≡ (sheet_call s u scene t c z lent).number) × ((out ≡ (sheet_call s u scene t c z lent).buffer)
-      × (FirstAt W sheet_order n × (AcceptedUnless (AtSome W) n
-      × ((n ≡ 0 → SheetWritten s u scene t c z lent out) × ((n ≡ 0 → PlaneOn s u scene t c z out)
-      × ((Refuses n → out ≡ lent) × FrameNamed s u scene t c z n))))))
+  Promised n out = record {
+    number : n ≡ (sheet_call s u scene t c z lent).number;
+    buffer : out ≡ (sheet_call s u scene t c z lent).buffer;
+    first : FirstAt W sheet_order n;
+    accepted : AcceptedUnless (AtSome W) n;
+    written : n ≡ 0 → SheetWritten s u scene t c z lent out;
+    plane : n ≡ 0 → PlaneOn s u scene t c z out;
+    untouched : Refuses n → out ≡ lent;
+    named : FrameNamed s u scene t c z n;
+  }
 
   promised : {n : ℕ} {out : List ℕ} → n ≡ (sheet_call s u scene t c z lent).number → out ≡ (sheet_call s u scene t c z lent).buffer → Promised n out
-  promised e f = (
-    e,
-    (
-      f,
-      (
-        rw e (sheets.write_number s u scene t c z lent),
-        (
-          rw e (sheets.write_accepted s u scene t c z lent),
-          (
-            λ q. rw f (sheets.written s u scene t c z lent (sym e ∙ q)),
-            (
-              λ q samples room. rw f (sheets.plane_written s u scene t c z lent (sym e ∙ q) samples room),
-              (λ g. f ∙ sheets.write_refused s u scene t c z lent (λ q. g (e ∙ q)), rw e (chunk_names.sheet_named s u scene t c z lent)),
-            ),
-          ),
-        ),
-      ),
-    ),
-  )
+  promised e f = record {
+    number = e;
+    buffer = f;
+    first = rw e (sheets.write_number s u scene t c z lent);
+    accepted = rw e (sheets.write_accepted s u scene t c z lent);
+    written = λ q. rw f (sheets.written s u scene t c z lent (sym e ∙ q));
+    plane = λ q samples room. rw f (sheets.plane_written s u scene t c z lent (sym e ∙ q) samples room);
+    untouched = λ g. f ∙ sheets.write_refused s u scene t c z lent (λ q. g (e ∙ q));
+    named = rw e (chunk_names.sheet_named s u scene t c z lent);
+  }
 
-  pub refused_sheet : (n : ℕ) → refused n ≡ sheet_for s u scene t c z (length lent) → Promised n lent
+  pub refused_sheet : {n : ℕ} → refused n ≡ sheet_for s u scene t c z (length lent) → Promised n lent
   unfolding sheet_call sheet_by
-  refused_sheet n q = promised (rw (sym q) refl) (rw (sym q) refl)
+  refused_sheet q = promised (rw (sym q) refl) (rw (sym q) refl)
 
   -- the frame of an accepted call
   module _ {r : Range} (q : given r ≡ sheet_for s u scene t c z (length lent)) where

@@ -1,13 +1,13 @@
 -- Whether a sheet is laid out as one, test by test, and what a reading promises at each way out. Assumes nothing.
 use Prim.Native.Nat.{ℕ, ◌+◌, ◌-◌, ◌*◌, ◌≤◌, ◌<◌}
 use mathlib.Core.Path.{◌≡◌, refl, sym, ap, ◌∙◌}
-use mathlib.Core.Bool.{Bool, true, false, ◌||◌, true≢false}
+use mathlib.Core.Bool.{Bool, true, false}
 use mathlib.Core.List.{List, ◌++◌}
 use native.Mathlib.Omega.{arith}
-use lib.Dec.{ltb, eqb}
+use lib.Dec.{ltb}
 use lib.ListN.{length, take, drop, length-drop}
 use lib.Seq.{take_all}
-use borrow.Author.Tests.{ltb-true, ltb-false, lt-ltb, le-ltb, le-leb, eq-eqb, ne_eqb, eqb-false}
+use borrow.Author.Tests.{ltb-false, lt-ltb, le-ltb, le-leb, eq-eqb}
 use Rattle.format.specs.Bytes.{le_at, part, over, same}
 use Rattle.format.specs.Answer.{refused, refuse_if, and_then}
 use Rattle.format.specs.Refusals as why
@@ -17,7 +17,6 @@ use Rattle.format.specs.Calls.Sheet.{laid_as, sheet_from, sheet_into, sheet_read
 use Rattle.format.specs.Refused.Order.{First}
 use Rattle.format.specs.Refused.Sheet.{SheetReadRefusal, sheet_read_order}
 use Rattle.format.specs.Sentences.{Refuses, AcceptedUnless, SheetTaken, TurnedAway, ZeroSizes}
-use Rattle.format.proofs.Ground.Tests.{or_left, or_right}
 use Rattle.format.proofs.Demands.Requests.{sheets}
 use Rattle.format.proofs.Files.SummaryTest.{bits_good, good_bits}
 use Rattle.format.proofs.Ground.Buffers.{over_all}
@@ -31,21 +30,13 @@ refuted true f = absurd (f refl)
 refuted false f = refl
 
 -- sizes that fit, by the tests
-pub fits_by : (w h b : ℕ) → (bad_bits b || eqb w 0 || eqb h 0) ≡ false → ltb most_sheet_bytes (sheet_bytes w h b) ≡ false → Fits w h b
-fits_by w h b e f =
-    let t₁ = bad_bits b in
-    let t₂ = eqb w 0 in
-    let t₃ = eqb h 0 in
-    let e₂ = or_left (t₁ || t₂) t₃ e in
-    let n₂ : (w ≡ 0 → ⊥) = eqb-false w 0 (or_right t₁ t₂ e₂) in
-    let n₃ : (h ≡ 0 → ⊥) = eqb-false h 0 (or_right (t₁ || t₂) t₃ e) in
-    record {
-      width_some = omega arith;
-      height_some = omega arith;
-      bits = bits_good b (or_left t₁ t₂ e₂);
-      most =
-          ltb-false most_sheet_bytes (sheet_bytes w h b) f;
-    }
+pub fits_by : (w h b : ℕ) → bad_bits b ≡ false → (w ≡ 0 → ⊥) → (h ≡ 0 → ⊥) → ltb most_sheet_bytes (sheet_bytes w h b) ≡ false → Fits w h b
+fits_by w h b e x y f = record {
+  width_some = omega arith;
+  height_some = omega arith;
+  bits = bits_good b e;
+  most = ltb-false most_sheet_bytes (sheet_bytes w h b) f;
+}
 
 module _ (s : List ℕ) (w h b : ℕ) where
   -- what is laid out as a sheet fits, and has its length
@@ -57,22 +48,6 @@ module _ (s : List ℕ) (w h b : ℕ) where
         record { width_some = z.sizes.width_some; height_some = z.sizes.height_some; bits = bits_of_bytes z.sizes.size_is; most = omega arith },
         z.ends ∙ ap (λ n. 186 + n) k,
       )
-
-  pub bad_sizes : (bad_bits b || eqb w 0 || eqb h 0) ≡ true → false ≡ laid_as s w h b
-  bad_sizes e = sym (refuted (laid_as s w h b) λ l. let f = (laid_fits l).0 in true≢false (sym e ∙ good f))
-    where
-      good : Fits w h b → (bad_bits b || eqb w 0 || eqb h 0) ≡ false
-      good f =
-          let x = f.width_some in
-          let y = f.height_some in
-          rw (good_bits b f.bits, ne_eqb w 0 (λ q. omega arith), ne_eqb h 0 (λ q. omega arith)) refl
-
-  pub too_long : ltb most_sheet_bytes (sheet_bytes w h b) ≡ true → false ≡ laid_as s w h b
-  too_long e =
-      sym (refuted (laid_as s w h b) λ l. let m = (laid_fits l).0.most in let k = ltb-true most_sheet_bytes (sheet_bytes w h b) e in omega arith)
-
-  pub other_length : (length s - 186 ≡ w * h * sample_bytes b → ⊥) → false ≡ laid_as s w h b
-  other_length f = sym (refuted (laid_as s w h b) λ l. f (let e = (laid_fits l).1 in omega arith))
 
   pub head_decides : Fits w h b → 186 ≤ length s → length s - 186 ≡ w * h * sample_bytes b → same (part s 0 186) (sheet_head w h b) ≡ laid_as s w h b
   unfolding laid_as
@@ -105,48 +80,39 @@ module _ (s buf : List ℕ) where
 
   -- the call's numbers and buffer, and the sentences that follow
   abbrev pub Promised : ℕ → ℕ → ℕ → ℕ → List ℕ → Type 0
-  Promised n w h b out =
-      (n ≡ (sheet_read_call s buf).number) × ((w ≡ (sheet_read_call s buf).width) × ((h ≡ (sheet_read_call s buf).height) × ((b ≡ (sheet_read_call s buf).bits)
-      × ((out ≡ (sheet_read_call s buf).samples) × (First T sheet_read_order n × (AcceptedUnless T n × ((n ≡ 0 → SheetTaken s w h b buf out)
-      × (TurnedAway s n × ((Refuses n → out ≡ buf) × (Refuses n → ZeroSizes w h b))))))))))
+  Promised n w h b out = record {
+    number : n ≡ (sheet_read_call s buf).number;
+    width : w ≡ (sheet_read_call s buf).width;
+    height : h ≡ (sheet_read_call s buf).height;
+    bits : b ≡ (sheet_read_call s buf).bits;
+    buffer : out ≡ (sheet_read_call s buf).samples;
+    first : First T sheet_read_order n;
+    accepted : AcceptedUnless T n;
+    taken : n ≡ 0 → SheetTaken s w h b buf out;
+    layout : TurnedAway s n;
+    untouched : Refuses n → out ≡ buf;
+    zero : Refuses n → ZeroSizes w h b;
+  }
 
   promised : {n w h b : ℕ} {out : List ℕ} → n ≡ (sheet_read_call s buf).number → w ≡ (sheet_read_call s buf).width → h ≡ (sheet_read_call s buf).height
       → b ≡ (sheet_read_call s buf).bits → out ≡ (sheet_read_call s buf).samples → Promised n w h b out
-  promised e ew eh eb eo = (
-    e,
-    (
-      ew,
-      (
-        eh,
-        (
-          eb,
-          (
-            eo,
-            (
-              rw e (sheets.read_number s buf),
-              (
-                rw e (sheets.read_accepted s buf),
-                (
-                  λ q. rw (ew, eh, eb, eo) (sheets.read_taken s buf (sym e ∙ q)),
-                  (
-                    rw e (sheets.turned_away s buf),
-                    (
-                      λ g. eo ∙ sheets.read_refused s buf (λ q. g (e ∙ q)),
-                      λ g. rw (ew, eh, eb) (sheets.read_zero s buf (λ q. g (e ∙ q))),
-                    ),
-                  ),
-                ),
-              ),
-            ),
-          ),
-        ),
-      ),
-    ),
-  )
+  promised e ew eh eb eo = record {
+    number = e;
+    width = ew;
+    height = eh;
+    bits = eb;
+    buffer = eo;
+    first = rw e (sheets.read_number s buf);
+    accepted = rw e (sheets.read_accepted s buf);
+    taken = λ q. rw (ew, eh, eb, eo) (sheets.read_taken s buf (sym e ∙ q));
+    layout = rw e (sheets.turned_away s buf);
+    untouched = λ g. eo ∙ sheets.read_refused s buf (λ q. g (e ∙ q));
+    zero = λ g. rw (ew, eh, eb) (sheets.read_zero s buf (λ q. g (e ∙ q)));
+  }
 
-  refused_read : {k n w h b : ℕ} → n ≡ k → ZeroSizes w h b → sheet_into s (length buf) ≡ refused k → Promised n w h b buf
+  refused_read : {n : ℕ} → sheet_into s (length buf) ≡ refused n → Promised n 0 0 0 buf
   unfolding sheet_read_call sheet_read_by
-  refused_read e (x, (y, z)) q = promised (e ∙ rw q refl) (x ∙ rw q refl) (y ∙ rw q refl) (z ∙ rw q refl) (rw q refl)
+  refused_read q = promised (rw q refl) (rw q refl) (rw q refl) (rw q refl) (rw q refl)
 
   abbrev laid : Bool
   laid = laid_as s (le_at 4 s 18) (le_at 4 s 30) (le_at 2 s 42)
@@ -155,20 +121,20 @@ module _ (s buf : List ℕ) where
   unfolding sheet_into sheet_from and_then
   away e = rw e refl
 
-  pub short_read : {n w h b : ℕ} → n ≡ why.sheet_layout → ZeroSizes w h b → length s < 186 → Promised n w h b buf
-  short_read e z l = refused_read e z (away (refuted laid λ q. let k = (laid_fits s _ _ _ q).1 in omega arith))
+  pub short_read : length s < 186 → Promised why.sheet_layout 0 0 0 buf
+  short_read l = refused_read (away (refuted laid λ q. let k = (laid_fits s _ _ _ q).1 in omega arith))
 
   -- width, height and bits where they stand
   module _ {w h b : ℕ} (at_width : w ≡ le_at 4 s 18) (at-height : h ≡ le_at 4 s 30) (at_bits : b ≡ le_at 2 s 42) where
-    pub away_read : {n x y z : ℕ} → n ≡ why.sheet_layout → ZeroSizes x y z → false ≡ laid_as s w h b → Promised n x y z buf
-    away_read e z l = refused_read e z (away (rw (at_width, at-height, at_bits) at (sym l)))
+    pub away_read : false ≡ laid_as s w h b → Promised why.sheet_layout 0 0 0 buf
+    away_read l = refused_read (away (rw (at_width, at-height, at_bits) at (sym l)))
 
     module _ (l : true ≡ laid_as s w h b) where
       is_laid : laid ≡ true
       is_laid = rw (at_width, at-height, at_bits) at (sym l)
 
-      pub full_read : {n x y z : ℕ} → n ≡ why.buffer → ZeroSizes x y z → length buf < length s - 186 → Promised n x y z buf
-      full_read e z k = refused_read e z full
+      pub full_read : length buf < length s - 186 → Promised why.buffer 0 0 0 buf
+      full_read k = refused_read full
         where
           full : sheet_into s (length buf) ≡ refused why.buffer
           full = unfold sheet_into sheet_from and_then refuse_if in rw (is_laid, lt-ltb (length buf) (length (drop 186 s)) (rw length-drop k)) refl

@@ -1,12 +1,12 @@
 // What stands in a sheet before its strip: the header of a TIFF file, a directory of thirteen fields, and the two resolutions.
-ghost use Rattle.std.specs.Prelude.{◌≡◌, ◌+◌, ◌^◌, ◌≤◌, ◌<◌, length, ◌++◌};
+ghost use Rattle.std.specs.Prelude.{◌≡◌, ◌+◌, ◌*◌, ◌≤◌, length};
 ghost use Rattle.std.proofs.lemmas.List.Edits.{sets};
-ghost use Rattle.format.specs.Bytes.{le_bytes, over, each};
-ghost use Rattle.format.specs.Sheets.{tiff_header, short, long, rational, field_bytes, rational_bytes, sample_format, sheet_head};
-ghost use Rattle.sheet.specs.Fields.{image_fields, strip_fields, resolution_fields};
+ghost use Rattle.format.specs.Bytes.{over, each};
+ghost use Rattle.format.specs.Sheets.{tiff_header, type_number, value_bytes, field_bytes, rational_bytes, sample_format, sheet_fields, sheet_head};
+ghost use Rattle.sheet.specs.Fields.{type_of, field_of};
 ghost use Rattle.sheet.specs.Fits.{Fits};
 
-use cursor::{put2, put4};
+use cursor::put;
 
 // The bytes before the strip.
 pub const HEAD_BYTES: usize = 186;
@@ -14,63 +14,63 @@ pub const HEAD_BYTES: usize = 186;
 // "II": the numbers of the file are little-endian.
 const BYTE_ORDER: u64 = 0x4949;
 
-// The types of values.
-const SHORT: u64 = 3;
+// ---- fields
 
-const LONG: u64 = 4;
-
-const RATIONAL: u64 = 5;
-
-// ---- entries of a directory
-
-// Stores tag, type and a count of 1.
-fn put_entry(d: &mut [u8], at: usize, tag: u64, kind: u64)
-    requires { at + 8 ≤ length d.old }
-    ensures { d.new ≡ sets d.old at (le_bytes 2 tag ++ le_bytes 2 kind ++ le_bytes 4 1) }
-{
-    put2(d, at, tag);
-    put2(d, at + 2, kind);
-    put4(d, at + 4, 1);
+// The types of values, with their numbers. The value of a field with a rational is the place where it stands.
+#[derive(Clone, Copy)]
+enum Kind {
+    Short = 3,
+    Long = 4,
+    Rational = 5,
 }
 
-// Stores a field with a value of two bytes, and zeros in the two that it leaves.
-fn put_short(d: &mut [u8], at: usize, tag: u64, value: u64)
+// A field with one value: its tag, its type, and the value.
+#[derive(Clone, Copy)]
+struct Field(u64, Kind, u64);
+
+// Stores a value of two bytes with zeros in the two that it leaves, or one of four.
+fn put_value(d: &mut [u8], at: usize, kind: Kind, value: u64)
+    requires { at + 4 ≤ length d.old }
+    ensures { d.new ≡ sets d.old at (value_bytes (type_of kind) value) }
+{
+    match kind {
+        Kind::Short => {
+            put::<2>(d, at, value);
+            put::<2>(d, at + 2, 0);
+        }
+        Kind::Long | Kind::Rational => put::<4>(d, at, value),
+    }
+}
+
+// Stores a field: tag, type, a count of 1, and the value.
+fn put_field(d: &mut [u8], at: usize, f: Field)
     requires { at + 12 ≤ length d.old }
-    ensures { d.new ≡ sets d.old at (field_bytes (short tag value)) }
+    ensures { d.new ≡ sets d.old at (field_bytes (field_of f)) }
 {
-    put_entry(d, at, tag, SHORT);
-    put2(d, at + 8, value);
-    put2(d, at + 10, 0);
+    put::<2>(d, at, f.0);
+    put::<2>(d, at + 2, f.1 as u64);
+    put::<4>(d, at + 4, 1);
+    put_value(d, at + 8, f.1, f.2);
 }
 
-// Stores a field with a value of four bytes.
-fn put_long(d: &mut [u8], at: usize, tag: u64, value: u64)
-    requires { (at + 12 ≤ length d.old) × (value < 2 ^ 32) }
-    ensures { d.new ≡ sets d.old at (field_bytes (long tag value)) }
+// Stores fields one after another.
+fn put_fields(d: &mut [u8], at: usize, fields: &[Field])
+    requires { at + 12 * length fields.now ≤ length d.old }
+    ensures { d.new ≡ sets d.old at (each (λ f. field_bytes (field_of f)) fields.now) }
 {
-    put_entry(d, at, tag, LONG);
-    put4(d, at + 8, value);
-}
-
-// Stores a field whose value stands at a place of the file.
-fn put_rational(d: &mut [u8], at: usize, tag: u64, place: u64)
-    requires { (at + 12 ≤ length d.old) × (place < 2 ^ 32) }
-    ensures { d.new ≡ sets d.old at (field_bytes (rational tag place)) }
-{
-    put_entry(d, at, tag, RATIONAL);
-    put4(d, at + 8, place);
+    for (i, f) in fields.iter().enumerate() {
+        put_field(d, at + 12 * i, *f);
+    }
 }
 
 // ---- a sheet's
 
 // Samples of 8 and 16 bits are unsigned integers, those of 32 bits IEEE floating point.
+#[tactic(auto, unfolding(format::specs::Sheets::sample_format))]
 fn sample_format(bits: u64) -> u64
     ensures { result ≡ sample_format bits }
 {
-    if bits == 32 {
-        return 3;
-    }
-    1
+    if bits == 32 { 3 } else { 1 }
 }
 
 // Stores the header of a TIFF file whose directory is at byte 8.
@@ -78,43 +78,9 @@ fn put_header(d: &mut [u8])
     requires { 8 ≤ length d.old }
     ensures { d.new ≡ sets d.old 0 (tiff_header 8) }
 {
-    put2(d, 0, BYTE_ORDER);
-    put2(d, 2, 42);
-    put4(d, 4, 8);
-}
-
-// Stores the fields of the image: its sizes and bits, that it is not compressed, and that black is zero.
-fn put_image(d: &mut [u8], width: u64, height: u64, bits: u64)
-    requires { (70 ≤ length d.old) × (width < 2 ^ 32) × (height < 2 ^ 32) }
-    ensures { d.new ≡ sets d.old 10 (each field_bytes (image_fields width height bits)) }
-{
-    put_long(d, 10, 256, width);
-    put_long(d, 22, 257, height);
-    put_short(d, 34, 258, bits);
-    put_short(d, 46, 259, 1);
-    put_short(d, 58, 262, 1);
-}
-
-// Stores the fields of the strip: its place, one sample a pixel, all rows, and its bytes.
-fn put_strip(d: &mut [u8], height: u64, size: u64)
-    requires { (118 ≤ length d.old) × (height < 2 ^ 32) × (size < 2 ^ 32) }
-    ensures { d.new ≡ sets d.old 70 (each field_bytes (strip_fields height size)) }
-{
-    put_long(d, 70, 273, 186);
-    put_short(d, 82, 277, 1);
-    put_long(d, 94, 278, height);
-    put_long(d, 106, 279, size);
-}
-
-// Stores the fields of the resolutions, of which no unit is known, and of the sample format.
-fn put_resolution(d: &mut [u8], bits: u64)
-    requires { 166 ≤ length d.old }
-    ensures { d.new ≡ sets d.old 118 (each field_bytes (resolution_fields bits)) }
-{
-    put_rational(d, 118, 282, 170);
-    put_rational(d, 130, 283, 178);
-    put_short(d, 142, 296, 1);
-    put_short(d, 154, 339, sample_format(bits));
+    put::<2>(d, 0, BYTE_ORDER);
+    put::<2>(d, 2, 42);
+    put::<4>(d, 4, 8);
 }
 
 // Stores the fraction 1/1.
@@ -122,8 +88,30 @@ fn put_one(d: &mut [u8], at: usize)
     requires { at + 8 ≤ length d.old }
     ensures { d.new ≡ sets d.old at (rational_bytes 1 1) }
 {
-    put4(d, at, 1);
-    put4(d, at + 4, 1);
+    put::<4>(d, at, 1);
+    put::<4>(d, at + 4, 1);
+}
+
+// The fields of a sheet, in rising order of their tags.
+fn sheet_fields(width: u64, height: u64, bits: u64) -> [Field; 13]
+    requires { Fits width height bits }
+    ensures { each (λ f. field_bytes (field_of f)) result ≡ each field_bytes (sheet_fields width height bits) }
+{
+    [
+        Field(256, Kind::Long, width), // ImageWidth
+        Field(257, Kind::Long, height), // ImageLength
+        Field(258, Kind::Short, bits), // BitsPerSample
+        Field(259, Kind::Short, 1), // Compression: none
+        Field(262, Kind::Short, 1), // PhotometricInterpretation: black is zero
+        Field(273, Kind::Long, 186), // StripOffsets
+        Field(277, Kind::Short, 1), // SamplesPerPixel
+        Field(278, Kind::Long, height), // RowsPerStrip: all of them
+        Field(279, Kind::Long, width * height * (bits / 8)), // StripByteCounts
+        Field(282, Kind::Rational, 170), // XResolution
+        Field(283, Kind::Rational, 178), // YResolution
+        Field(296, Kind::Short, 1), // ResolutionUnit: none
+        Field(339, Kind::Short, sample_format(bits)), // SampleFormat
+    ]
 }
 
 // Stores the first 186 bytes of the sheet of a plane.
@@ -131,13 +119,11 @@ pub fn put_head(d: &mut [u8], width: u64, height: u64, bits: u64)
     requires { (186 ≤ length d.old) × Fits width height bits }
     ensures { d.new ≡ over (sheet_head width height bits) d.old }
 {
-    let size = width * height * (bits / 8);
+    let fields = sheet_fields(width, height, bits);
     put_header(d);
-    put2(d, 8, 13);
-    put_image(d, width, height, bits);
-    put_strip(d, height, size);
-    put_resolution(d, bits);
-    put4(d, 166, 0);
+    put::<2>(d, 8, 13);
+    put_fields(d, 10, &fields);
+    put::<4>(d, 166, 0);
     put_one(d, 170);
     put_one(d, 178);
 }

@@ -1,41 +1,22 @@
--- `laid_as`: one law for each way out.
+-- `laid_as`: sizes that passed fit, and then the head decides.
 use mathlib.Core.Path.{refl, sym, ◌∙◌}
 use native.Mathlib.Omega.{arith}
+use borrow.Author.Rules.{rules}
 use Rattle.sheet.specs.Fits.{Fits}
 use Rattle.sheet.proofs.Heads.{small}
-use Rattle.sheet.proofs.Reading.{fits_by, bad_sizes, too_long, other_length, head_compared, head_decides}
-use borrow.Author.Rules.{rules}
+use Rattle.sheet.proofs.Reading.{fits_by, head_compared, head_decides}
 use Rattle.sheet.proofs.laid_as.Goals as goal
 use Rattle.sheet.proofs.laid_as.Goals.{Else-sheet_over}
 
 -- the sizes passed
-module _ (c : Else-sheet_over) where
-  fitted : let a = c.args in Fits a.width a.height a.bits
-  fitted =
-      let a = c.args in
-      fits_by a.width a.height a.bits (rw c.bad_bits.ensures at c.if-bad_bits-width.false)
-      (sym c.sheet_over.ensures ∙ c.if-sheet_over.false)
-
-pub returns-then-bad_bits-width : goal.returns-then-bad_bits-width
-returns-then-bad_bits-width c =
+fitted : (c : Else-sheet_over) → let a = c.args in Fits a.width a.height a.bits
+fitted c =
     let a = c.args in
-    bad_sizes a.sheet.now a.width a.height a.bits (rw c.bad_bits.ensures at c.if-bad_bits-width.true)
-
-pub returns-then-sheet_over : goal.returns-then-sheet_over
-returns-then-sheet_over c =
-    let a = c.args in
-    too_long a.sheet.now a.width a.height a.bits (sym c.sheet_over.ensures ∙ c.if-sheet_over.true)
+    fits_by a.width a.height a.bits (sym c.bad_bits.ensures ∙ c.if-bad_bits.false) c.if-width-eq0.false c.if-height-eq0.false
+    (sym c.sheet_over.ensures ∙ c.if-sheet_over.false)
 
 pub overflow_mul-width : goal.overflow_mul-width
 overflow_mul-width c = omega (arith, small (fitted c))
-
-pub overflow_mul-width-2 : goal.overflow_mul-width-2
-overflow_mul-width-2 c = omega (arith, small (fitted c))
-
-pub returns-then-sheet-width : goal.returns-then-sheet-width
-returns-then-sheet-width c =
-    let a = c.args in
-    other_length a.sheet.now a.width a.height a.bits c.if-sheet-width.true
 
 pub put_head-requires : goal.put_head-requires
 put_head-requires c = (search rules, fitted (goal.at.put_head-requires c).Else-sheet_over)
