@@ -11,6 +11,7 @@ use lib.Ieee.{Float, nan, inf, fin, Format, prec, emax, low, odd, is_nan, hid, o
 use lib.Ieee.Bits.{nan_bits_is, nan_bits_above}
 use lib.Ieee.Exact.{HasValue, odd_sign}
 use Rattle.format.specs.Numbers.{magnitude}
+use Rattle.format.proofs.Numbers.Doubles.{least_bits, most_bits}
 
 -- ---- which values and which patterns are a NaN's
 
@@ -99,3 +100,6 @@ no_number f s zero t e z = absurd (go (2 * emax f) e)
 no_number f s (suc x) t e z =
     ap (λ (b : Bool). cond b (cond (eqb t 0) (inf s) nan) (odd (prec f) s (hid f + t) x (low f))) (eq-eqb (suc x) (ones f) e)
     ∙ ap (λ (b : Bool). cond b (inf s) nan) (ne_eqb t 0 z)
+
+-- the limits of class 1, by their bits
+pub ruleset limits = (least_bits, most_bits)

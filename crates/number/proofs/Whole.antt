@@ -5,9 +5,9 @@ use mathlib.Core.Bool.{Bool, true, false, cond}
 use mathlib.Core.Option.{Option, none, some}
 use Prim.Native.Nat.{ℕ, zero, suc, ◌+◌, ◌-◌, ◌*◌, ◌/◌, ◌%◌, ◌^◌, ◌≤◌, ◌<◌}
 use native.Mathlib.Nat.{le_trans, le_of_eq, le_of_lt, lt_of_lt_of_le, mul_assoc, mul-pos, mul-le-mul_right, mul-lt-mul_of_pos_right, le-add_right}
-use native.Mathlib.Nat.{one-mul, add-zero, add-mul, div-le_self, div-mul-le_self, div-add-mod', mod-lt, mod-eq_of_lt, eq-or-lt_of_le}
+use native.Mathlib.Nat.{one-mul, add-zero, add-mul, div-le_self, div-add-mod', mod-lt, mod-eq_of_lt, eq-or-lt_of_le}
 use native.Mathlib.Omega.{arith}
-use borrow.Author.Tests.{ltb-true, ltb-false, lt-leb, le-leb, eqb-true, eqb-false, eq-eqb, ne_eqb}
+use borrow.Author.Tests.{ltb-true, ltb-false, lt-leb, le-leb, eqb-true, eqb-false}
 use lib.Dec.{leb, ltb, eqb, lit≤}
 use lib.Pow.{pow-add, pow_pos, pow_mono, shl_lt, shl_exact}
 use lib.Ieee.{Float, nan, inf, Format, binary64, prec, low, hid, ones, odd, of_fields, of_bits}
@@ -44,18 +44,6 @@ module _ (q u p c : ℕ) (C : c ≡ u * p) where
       let l = mod-lt q U in
       let k : (q / u + 1) * u ≡ q / u * u + u = add-mul (q / u) 1 u ∙ ap (λ (z : ℕ). q / u * u + z) (one-mul u) in
       rw (over_is (q / u + 1)) (mul-lt-mul_of_pos_right (omega arith) P)
-
--- ---- shifted down and up again
-
-module _ (n k : ℕ) (F : n < 2 ^ 64) where
-  back : n / 2 ^ k * 2 ^ k % 2 ^ 64 ≡ n / 2 ^ k * 2 ^ k
-  back = let l = div-mul-le_self n (2 ^ k) in mod-eq_of_lt (omega arith)
-
-  pub nothing_over : n / 2 ^ k * 2 ^ k % 2 ^ 64 ≡ n → some (n / 2 ^ k) ≡ cond (eqb (n % 2 ^ k) 0) (some (n / 2 ^ k)) none
-  nothing_over h = let p = div-add-mod' n (2 ^ k) in let q = back in rw (eq-eqb (n % 2 ^ k) 0 (omega arith)) refl
-
-  pub something_over : (n / 2 ^ k * 2 ^ k % 2 ^ 64 ≡ n → ⊥) → none ≡ cond (eqb (n % 2 ^ k) 0) (some (n / 2 ^ k)) none
-  something_over h = rw (ne_eqb (n % 2 ^ k) 0 λ z. h (back ∙ sym (add-zero _) ∙ ap (λ (r : ℕ). n / 2 ^ k * 2 ^ k + r) (sym z) ∙ div-add-mod' n (2 ^ k))) refl
 
 -- ---- fields without a sign, by the exponent's field x and the digits t
 
@@ -244,3 +232,6 @@ module _ (b : ℕ) (F : b < 2 ^ 64) where
     where
       minus_zero : unsigned (double (of_bits binary64 0)) ≡ unsigned (double (of_bits binary64 (2 ^ 63)))
       minus_zero = unfold of_bits unsigned bind map_option in refl
+
+-- the cases of a pattern without a sign
+pub ruleset patterns = (nothing, all_fraction, point_inside, point_behind, no_whole)

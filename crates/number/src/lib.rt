@@ -29,6 +29,7 @@ const INFINITE_32: u32 = 0x7f80_0000;
 // ---- patterns: an f32's functions are written beside an f64's, since a trait over both would be longer than the four bodies
 
 // The f64 of a pattern.
+#[tactic(auto, using(crate::proofs::Reading::nan_above, crate::proofs::Reading::no_nan_below))]
 pub fn double_of(bits: u64) -> f64
     ensures { result ≡ Ieee.of_bits binary64 bits }
 {
@@ -40,6 +41,7 @@ pub fn double_of(bits: u64) -> f64
 }
 
 // The f32 of a pattern.
+#[tactic(auto, using(crate::proofs::Reading::nan_above, crate::proofs::Reading::no_nan_below))]
 pub fn single_of(bits: u32) -> f32
     ensures { result ≡ Ieee.of_bits binary32 bits }
 {
@@ -69,6 +71,7 @@ pub fn single_bits(x: f32) -> u32
 }
 
 // x without its sign, which is taken off as a bit (docs/DECISIONS.md), where f64::abs compares.
+#[tactic(auto, using(crate::proofs::Reading::clears))]
 pub fn magnitude(x: f64) -> f64
     ensures { result ≡ Numbers.magnitude x }
 {
@@ -91,6 +94,7 @@ fn whole_quotient(n: u64, shift: u64) -> Option<u64>
 }
 
 // The whole number that a pattern without a sign is. Absent: a fraction, 2^64 and above, an infinity, a NaN.
+#[tactic(auto, using(crate::proofs::Whole::patterns))]
 fn whole_number(bits: u64) -> Option<u64>
     requires { bits < 0x8000_0000_0000_0000 }
     ensures { natural result ≡ Numbers.unsigned (double (Ieee.of_bits binary64 bits)) }
@@ -111,6 +115,7 @@ fn whole_number(bits: u64) -> Option<u64>
 }
 
 // The unsigned reading: what is below 0 is absent too, and -0 is 0.
+#[tactic(auto, using(crate::proofs::Whole::absent_below, crate::proofs::Whole::natural_is))]
 pub fn unsigned(x: f64) -> Option<u64>
     ensures { natural result ≡ Numbers.unsigned (double x) }
 {
@@ -152,6 +157,7 @@ pub fn signed_below(n: u64) -> Option<i64>
 }
 
 // The signed reading of -n.
+#[tactic(auto, unfolding(format::specs::Numbers::signed, format::specs::Values::bind))]
 fn negated(n: u64) -> Option<i64>
     ensures { integer result ≡ Numbers.signed (whole (neg_ℤ (pos n))) }
 {
@@ -161,6 +167,7 @@ fn negated(n: u64) -> Option<i64>
 // ---- roundings, worked out from bits and not by std::num, so that no setting of the processor counts (docs/TRUST.md)
 
 // q / 2^n to the nearest whole number, a tie to the even one.
+#[tactic(auto, using(crate::proofs::Rounding::less, crate::proofs::Rounding::more, crate::proofs::Rounding::neither))]
 pub fn rounded(q: u64, n: u64) -> u64
     requires low { 1 ≤ n }
     requires high { n < 63 }
@@ -212,6 +219,7 @@ pub fn of_below(n: u64) -> f64
 }
 
 // The f32 nearest to the f64 of an exponent's field and digits, as a pattern.
+#[tactic(auto, using(crate::proofs::Narrowing::low_fields, crate::proofs::Narrowing::mid_fields, crate::proofs::Narrowing::over_fields))]
 fn narrow_fields(exponent: u64, digits: u64) -> u32
     requires exponent_fits { exponent < 2048 }
     requires digits_fit { digits < 2 ^ 52 }
@@ -255,6 +263,7 @@ pub fn narrow(x: f64) -> f32
 // ---- sizes
 
 // Above 0.
+#[tactic(auto, unfolding(format::specs::Numbers::positive))]
 pub fn positive(x: f64) -> bool
     ensures { result ≡ Numbers.positive x }
 {
@@ -262,6 +271,7 @@ pub fn positive(x: f64) -> bool
 }
 
 // A z step as stated, without a minus sign; none where it is 0.
+#[tactic(auto, unfolding(format::specs::Calibration::stated_step))]
 pub fn stated_step(x: f64) -> Option<f64>
     ensures { real result ≡ Calibration.stated_step (some x) }
 {
@@ -269,6 +279,7 @@ pub fn stated_step(x: f64) -> Option<f64>
 }
 
 // The z step of a stack of `count` from `low` to `high`: exact where the distance and the step are doubles.
+#[tactic(auto, unfolding(format::specs::Calibration::span_step))]
 pub fn span_step(count: u64, high: f64, low: f64) -> Option<f64>
     ensures step { real result ≡ Calibration.span_step count (some high) (some low) }
     ensures exact { (step : ℕ) → Exact count high low step → Steps result step }
@@ -281,6 +292,7 @@ pub fn span_step(count: u64, high: f64, low: f64) -> Option<f64>
 }
 
 // A positive finite number.
+#[tactic(auto, unfolding(format::specs::Numbers::positive))]
 fn usable(x: f32) -> bool
     ensures { result ≡ (Numbers.positive x && Numbers.finite x) }
 {
@@ -288,6 +300,7 @@ fn usable(x: f32) -> bool
 }
 
 // The class of a z step: 0 not usable, 1 used, 2 smaller than 1e-6, 3 larger than 1e3.
+#[tactic(auto, using(crate::proofs::Reading::limits), unfolding(format::specs::Calibration::z_class))]
 pub fn z_class(x: f32) -> u64
     ensures { result ≡ Calibration.z_class (some x) }
 {
@@ -305,6 +318,7 @@ pub fn z_class(x: f32) -> u64
 }
 
 // Only class 1 keeps its step.
+#[tactic(auto, unfolding(format::specs::Calibration::kept_z))]
 pub fn kept_z(class: u64, z: f32) -> f32
     ensures { result ≡ Calibration.kept_z class (some z) }
 {

@@ -11,7 +11,3 @@ unfolding of_bits div Numbers.positive
 returns-then-x c =
     let x = c.args.x in
     finite_below x c.if-x.true ∙ ap (λ (b : Bool). b && Numbers.finite x) (sym c.if-x.true)
-
-pub returns-else-x : goal.returns-else-x
-unfolding of_bits Numbers.positive
-returns-else-x c = c.if-x.false ∙ ap (λ (b : Bool). b && Numbers.finite c.args.x) (sym c.if-x.false)
