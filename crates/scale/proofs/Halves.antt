@@ -3,14 +3,14 @@ use mathlib.Core.Path.{◌≡◌, refl, sym, ap, ◌∙◌}
 use mathlib.Core.Bool.{Bool, true, false}
 use mathlib.Core.Option.{none, some}
 use Prim.Native.Nat.{ℕ, ◌+◌, ◌-◌, ◌*◌, ◌/◌, ◌%◌, ◌^◌, ◌≤◌, ◌<◌, compare, Ordering}
-use native.Mathlib.Nat.{le_trans, le_of_eq, mul_comm, mul_assoc, mul_left_comm, mul-le-mul_right, mul-add-div_right}
+use native.Mathlib.Nat.{le_trans, le_of_eq, lt_of_lt_of_le, mul_comm, mul_assoc, mul_left_comm, mul-le-mul_right, mul-add-div_right}
 use native.Mathlib.Nat.{mul-add-mod_self_right, div-div-eq-div-mul, div-eq_of_lt, mod-eq_of_lt, div-lt_iff_lt-mul, le-div_iff_mul-le}
 use native.Mathlib.Omega.{arith}
 use borrow.Author.Tests.{ltb-true, ltb-false}
 use lib.Dec.{ltb}
 use lib.Arith.{digits_div, digits_mod, mod-mul}
 use lib.IntN.{pos}
-use lib.Pow.{pow-add, pow_pos, shl_exact}
+use lib.Pow.{pow-add, pow_pos, pow_mono, shl_exact}
 use lib.Ieee.{nearest}
 use lib.Ieee.Nearest.{closest, closest_same}
 use Rattle.std.specs.Prelude as std
@@ -26,6 +26,13 @@ pub nothing_left : (a b : ℕ) → a * 2 < b → closest a b ≡ 0
 nothing_left a b h =
     let l : a < b = omega arith in
     sym (under_half a b (rw (mod-eq_of_lt l) h)) ∙ div-eq_of_lt l
+
+-- less than half a picometre
+pub tiny : (q n : ℕ) → q < 2 ^ 53 → 73 < n → some 0 ≡ in_u64 (pos (closest (q * 1_000_000) (2 ^ n)))
+tiny q n h k =
+    let l : q * 1_000_000 * 2 < 2 ^ 74 = omega arith in
+    let m : q * 1_000_000 * 2 < 2 ^ n = lt_of_lt_of_le l (pow_mono {i = 74} {j = n} k) in
+    sym (below_u64 0 (omega arith)) ∙ ap (λ (z : ℕ). in_u64 (pos z)) (sym (nothing_left (q * 1_000_000) (2 ^ n) m))
 
 -- ---- an even whole part passes through
 

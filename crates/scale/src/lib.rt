@@ -39,6 +39,7 @@ fn product(digits: u64) -> Wide
 }
 
 // The whole number nearest to w / 2^n, a tie to the even one, where the point lies in the low half. Absent: 2^64 and above.
+#[tactic(auto, using(crate::proofs::Halves::low_over, crate::proofs::Halves::low_sum))]
 fn point_in_low(w: Wide, n: u64) -> Option<u64>
     requires low { 1 ≤ n }
     requires high { n < 63 }
@@ -52,6 +53,7 @@ fn point_in_low(w: Wide, n: u64) -> Option<u64>
 }
 
 // The same where it lies in the high half: of the lowest word it counts only whether it is 0.
+#[tactic(auto, using(crate::proofs::Halves::high_point, crate::proofs::Halves::high_point_more))]
 fn point_in_high(w: Wide, n: u64) -> u64
     requires small { w.high < 2 ^ 30 }
     requires low { 34 ≤ n }
@@ -69,6 +71,7 @@ fn point_in_high(w: Wide, n: u64) -> u64
 // ---- a double
 
 // digits / 2^n micrometres. From 74 on they are less than half a picometre.
+#[tactic(auto, using(crate::proofs::Halves::tiny, format::proofs::Numbers::Wholes::below_u64))]
 fn scaled(digits: u64, n: u64) -> Option<u64>
     requires small { digits < 2 ^ 53 }
     requires low { 1 ≤ n }
@@ -86,6 +89,7 @@ fn scaled(digits: u64, n: u64) -> Option<u64>
 }
 
 // The picometres that x micrometres are, without its sign. Absent: 2^64 and above, an infinity, a NaN.
+#[tactic(auto, using(crate::proofs::Pattern::low_pattern, crate::proofs::Pattern::mid_pattern, crate::proofs::Pattern::high_pattern))]
 pub fn picometres(x: f64) -> Option<u64>
     ensures { natural result ≡ Picometres.picometres x }
 {
