@@ -8,8 +8,8 @@ use native.Mathlib.Omega.{arith}
 use lib.ListN.{length, get_or, take, length-append}
 use lib.Seq.{sets, take-suc, take_all, length-take-le}
 use Rattle.format.proofs.Ground.Buffers.{over_stored}
-use Rattle.format.proofs.Ground.Bytes.{sets_append}
-use Rattle.format.specs.Bytes.{over, each}
+use Rattle.format.proofs.Ground.Bytes.{sets_append, le_bytes_length}
+use Rattle.format.specs.Bytes.{le_bytes, over, each}
 
 each_last : {A : Type 0} (f : A → List ℕ) (xs : List A) (x : A) → each f (xs ++ x ∷ []) ≡ each f xs ++ f x
 unfolding each
@@ -27,13 +27,6 @@ module _ {A : Type 0} (f : A → List ℕ) (size : ℕ) (sized : (x : A) → len
   each_length [] = sym (mul-zero size)
   each_length (x ∷ xs) = rw (length-append, sized, each_length xs, mul-suc) (add_comm size (size * length xs))
 
-  -- one more, from a place on
-  pub one_set : (xs b : List ℕ) (at k : ℕ) (x d : A) → (ys : List A) → k < length ys → x ≡ get_or ys k d → xs ≡ sets b at (each f (take k ys))
-      → sets xs (at + size * k) (f x) ≡ sets b at (each f (take (k + 1) ys))
-  one_set xs b at k x d ys h q e =
-      let l : length (each f (take k ys)) ≡ size * k = rw (each_length (take k ys), length-take-le k ys (omega arith)) in
-      rw (e, q, add-one, take-suc ys k d h, each_last, sets_append (each f (take k ys)) (f (get_or ys k d)) b at, l) refl
-
   -- one more: d is what lies behind the list's end
   pub next_stored : (xs : List A) (b₀ b : List ℕ) (k : ℕ) (x d : A) → b ≡ over (each f (take k xs)) b₀ → k < length xs → size * length xs ≤ length b₀
       → x ≡ get_or xs k d → sets b (size * k) (f x) ≡ over (each f (take (k + 1) xs)) b₀
@@ -47,3 +40,11 @@ module _ {A : Type 0} (f : A → List ℕ) (size : ℕ) (sized : (x : A) → len
 pub all_stored : {A : Type 0} (f : A → List ℕ) (xs : List A) (b₀ b : List ℕ) (k : ℕ) → b ≡ over (each f (take k xs)) b₀ → length xs ≤ k
     → b ≡ over (each f xs) b₀
 all_stored f xs b₀ b k e h = rw (take_all k xs h) at e
+
+-- one word more, from a place on
+pub one_word : (b : List ℕ) (at k : ℕ) (ys : List ℕ) → k < length ys
+    → sets (sets b at (each (le_bytes 8) (take k ys))) (at + 8 * k) (le_bytes 8 (get_or ys k 0)) ≡ sets b at (each (le_bytes 8) (take (k + 1) ys))
+one_word b at k ys h =
+    let l : length (each (le_bytes 8) (take k ys)) ≡ 8 * k =
+    rw (each_length (le_bytes 8) 8 (le_bytes_length 8) (take k ys), length-take-le k ys (omega arith)) in
+    rw (add-one, take-suc ys k 0 h, each_last, sets_append (each (le_bytes 8) (take k ys)) (le_bytes 8 (get_or ys k 0)) b at, l) refl

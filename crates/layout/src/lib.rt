@@ -98,7 +98,7 @@ fn axes_said(b: &[u8]) -> bool
 }
 
 // Whether the bytes are a summary's.
-#[tactic(auto, unfolding(crate::specs::Layout::of_layout))]
+#[tactic(auto, using(crate::proofs::Laws::unsaid), unfolding(crate::specs::Layout::of_layout))]
 fn of_layout(b: &[u8]) -> bool
     ensures { result ≡ of_layout b.now }
 {
@@ -120,6 +120,7 @@ pub fn summary_from(b: &[u8]) -> Option<Summary>
 // ---- written
 
 // Stores words from `at` on, one after another.
+#[tactic(auto, using(crate::proofs::Each::one_word), unfolding(format::specs::Bytes::each))]
 fn put_words(b: &mut [u8], at: usize, w: &[u64])
     requires { at + 8 * length w.now ≤ length b.old }
     ensures bytes { b.new ≡ sets b.old at (each (le_bytes 8) w.now) }
@@ -178,6 +179,7 @@ pub fn put_summary(b: &mut [u8], u: Summary)
 }
 
 // Stores a channel record at `at`.
+#[tactic(auto, using(crate::proofs::Laws::channel_words))]
 pub fn put_channel(b: &mut [u8], at: usize, c: Channel)
     requires { at + 56 ≤ length b.old }
     ensures { b.new ≡ sets b.old at (channel_bytes c) }
