@@ -102,10 +102,6 @@ pub record ByTurns (s d₀ d : List ℕ) (stride w count half k : ℕ) : Type 0 
   pub far : (j : ℕ) → half ≤ j → j < half + k → Copied s d stride w j
   pub behind : drop (count * w) d ≡ drop (count * w) d₀
 
-pub no_turn : (s d : List ℕ) (stride w count half : ℕ) → ByTurns s d d stride w count half 0
-no_turn s d stride w count half =
-    record { near = λ j h. absurd (omega arith); far = λ j h hj. absurd (omega arith); behind = refl }
-
 -- a row of those that there are lies in both lists
 pub row_in : (k count w stride m : ℕ) → w ≤ stride → k < count → count * stride ≤ m → k * stride + w ≤ m
 row_in k count w stride m fits h inside = omega (arith, turn k count stride h)
@@ -165,9 +161,6 @@ module _ {s d₀ d : List ℕ} {stride w count half k : ℕ} (t : ByTurns s d₀
         ∙ with_row_drop s d stride w k s₁ d₁ (count * w) (turn k count w (omega arith))
         ∙ t.behind;
   }
-
-  pub turn_length : length both ≡ length d
-  turn_length = with_row_length s one stride w (half + k) s₂ d₂ ∙ with_row_length s d stride w k s₁ d₁
 
 -- after as many turns as the larger half has rows, all are copied
 pub turns_all : (s d₀ d : List ℕ) (stride w count half k : ℕ) → ByTurns s d₀ d stride w count half k → w ≤ stride → count * stride ≤ length s → half ≤ k

@@ -1,5 +1,5 @@
 -- Pieces of a list and rows of them: how long they are, and what one more makes of a buffer. Assumes nothing.
-use Prim.Native.Nat.{ℕ, zero, suc, ◌+◌, ◌-◌, ◌*◌, ◌/◌, ◌%◌, ◌^◌, ◌≤◌, ◌<◌}
+use Prim.Native.Nat.{ℕ, zero, suc, ◌+◌, ◌-◌, ◌*◌, ◌≤◌, ◌<◌}
 use mathlib.Core.Path.{◌≡◌, refl, sym, ap, ap₂, ◌∙◌}
 use mathlib.Core.List.{List, [], ◌∷◌, ◌++◌, append_assoc, append-nil}
 use native.Mathlib.Nat.{add-zero, add-suc, suc-mul, zero-mul, mul-one, add-mul, mul-le-mul_right, add-sub_cancel_left}
@@ -134,13 +134,7 @@ byte_more s d₀ d at step k v apart before hk hd ev =
     let l : length p ≡ k = pieces_length s at step 1 apart k (omega arith) ∙ mul-one k in
     rw (before, add-one) (over_stored p (v ∷ []) d₀ k l (omega arith) ∙ ap (λ (x : List ℕ). over (p ++ x) d₀) (sym next))
 
--- the byte of a pair at `at`, by a shift
-pub half_at : (a b at : ℕ) → a < 256 → b < 256 → at < 2 → (a + 256 * b) / 2 ^ (8 * at) % 256 ≡ get_or (a ∷ (b ∷ [])) at 0
-half_at a b zero ha hb h = omega arith
-half_at a b (suc zero) ha hb h = omega arith
-half_at a b (suc (suc at)) ha hb h = absurd (omega arith)
-
--- of pair k
+-- the byte of pair k at `at`
 pub half_of : (s : List ℕ) (at k : ℕ) → at < 2 → get_or (get_or s (2 * k) 0 ∷ (get_or s (2 * k + 1) 0 ∷ [])) at 0 ≡ get_or s (at + k * 2) 0
 half_of s zero k h = ap (λ (i : ℕ). get_or s i 0) (omega arith)
 half_of s (suc zero) k h = ap (λ (i : ℕ). get_or s i 0) (omega arith)

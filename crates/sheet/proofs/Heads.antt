@@ -1,25 +1,21 @@
 -- Fields stored one after another are a sheet's head, and numbers that fit in it. Assumes nothing.
-use Prim.Native.Nat.{ℕ, ◌+◌, ◌*◌, ◌^◌, ◌≤◌, ◌<◌}
+use Prim.Native.Nat.{ℕ, ◌+◌, ◌*◌, ◌≤◌, ◌<◌}
 use mathlib.Core.Path.{◌≡◌, refl, sym, ap, ◌∙◌}
 use mathlib.Core.List.{List, [], ◌∷◌, ◌++◌, append_assoc, append-nil}
 use native.Mathlib.Nat.{zero-add}
 use native.Mathlib.Numerals.{add-one}
 use native.Mathlib.Omega.{arith}
-use lib.Dec.{lit<}
 use lib.ListN.{length, take, get_or, length-append}
 use lib.Seq.{sets, take-suc}
 use Rattle.std.proofs.lemmas.List.{length-take-le}
 use Rattle.format.specs.Bytes.{le_bytes, zeros, ascii, each, over}
-use Rattle.format.specs.Attributes.{sample_bytes}
 use Rattle.format.specs.Sheets.{FieldType, SHORT, LONG, RATIONAL, TiffField}
 use Rattle.format.specs.Sheets.{tiff_header, value_bytes, type_number, field_bytes, tiff_directory, rational_bytes, sheet_fields, sheet_head}
-use Rattle.format.specs.Grammar.Attributes.{Bits, eight, sixteen, thirtytwo}
 use Rattle.format.proofs.Ground.Bytes.{sets_append}
 use Rattle.format.proofs.Ground.Buffers.{over_stored}
-use Rattle.format.proofs.Calls.SheetBytes.{head_length, factors}
+use Rattle.format.proofs.Calls.SheetBytes.{head_length}
 use Rattle.sheet.specs.declared.head.Field.{Field}
 use Rattle.sheet.specs.Fields.{field_of}
-use Rattle.sheet.specs.Fits.{Fits}
 
 -- ---- a field
 
@@ -112,23 +108,3 @@ head_stored t fs w h b e room =
     (stored_two t (tiff_header 8) directory 0 8 refl ∙ stored_two d (le_bytes 2 13 ++ fields) (le_bytes 4 0) 8 158 refl
     ∙ ap (λ (l : List ℕ). sets l 166 (le_bytes 4 0)) (stored_two d (le_bytes 2 13) fields 8 2 refl)))))
     ∙ stored_over (sheet_head w h b) t (rw (head_length w h b) room)
-
--- ---- sizes that fit
-
-some_bytes : (b : ℕ) → Bits b → 0 < sample_bytes b
-some_bytes b eight = lit< tt
-some_bytes b sixteen = lit< tt
-some_bytes b thirtytwo = lit< tt
-
--- each number of a head has four bytes
-pub record Small (w h b : ℕ) : Type 0 where
-  pub wide : w < 2 ^ 32
-  pub high : h < 2 ^ 32
-  pub area : w * h < 2 ^ 32
-  pub whole : w * h * sample_bytes b < 2 ^ 32
-
-pub small : {w h b : ℕ} → Fits w h b → Small w h b
-small {w} {h} {b} f =
-    let (a, (c, d)) = factors w h (sample_bytes b) (w * h * sample_bytes b) f.width_some f.height_some (some_bytes b f.bits) refl in
-    let m = f.most in
-    record { wide = omega arith; high = omega arith; area = omega arith; whole = omega arith }

@@ -3,7 +3,6 @@ use mathlib.Core.Path.{refl, sym, ◌∙◌}
 use native.Mathlib.Omega.{arith}
 use borrow.Author.Rules.{rules}
 use Rattle.sheet.specs.Fits.{Fits}
-use Rattle.sheet.proofs.Heads.{small}
 use Rattle.sheet.proofs.Reading.{fits_by, head_compared, head_decides}
 use Rattle.sheet.proofs.laid_as.Goals as goal
 use Rattle.sheet.proofs.laid_as.Goals.{Else-sheet_over}
@@ -16,7 +15,7 @@ fitted c =
     (sym c.sheet_over.ensures ∙ c.if-sheet_over.false)
 
 pub overflow_mul-width : goal.overflow_mul-width
-overflow_mul-width c = omega (arith, small (fitted c))
+overflow_mul-width c = let f = fitted c in grind arith
 
 pub put_head-requires : goal.put_head-requires
 put_head-requires c = (search rules, fitted (goal.at.put_head-requires c).Else-sheet_over)
