@@ -45,7 +45,7 @@ fn half(first: u8, second: u8, at: usize) -> u8
     requires { at < 2 }
     ensures { result ≡ get_or (first ∷ (second ∷ [])) at 0 }
 {
-    let pair = u16::from(first) + 256 * u16::from(second);
+    let pair = u16::from_le_bytes([first, second]);
     ((pair >> (8 * at)) % 256) as u8
 }
 
