@@ -12,6 +12,7 @@ use lib.ListN.{length}
 use lib.Pow.{pow_mono}
 use borrow.Author.Tests.{eq-eqb, ne_eqb, eqb-true}
 use Rattle.format.proofs.Ground.Tests.{and_left, and_right, same_true, same_refl}
+use Rattle.format.specs.Numbers.{one_if}
 use Rattle.format.specs.Values.{name_of}
 use Rattle.format.specs.declared.Entry.{Entry}
 use Rattle.lookup.specs.Hash.{hash_of, key_of, Marked}
@@ -197,15 +198,18 @@ halved n b k l =
     rw (x, ← div-div-eq-div-mul (2 * n + b) 2 (2 ^ k), y) refl
 
 module _ (P : ℕ → Type 0) (n part : ℕ) (l : 0 < part) (h : (k : ℕ) → bit n k ≡ 1 → P (part + k)) where
-  with_bit : (b : ℕ) → b ≤ 1 → (b ≡ 1 → P (part - 1)) → (k : ℕ) → bit (2 * n + b) k ≡ 1 → P (part - 1 + k)
+  pub with_bit : (b : ℕ) → b ≤ 1 → (b ≡ 1 → P (part - 1)) → (k : ℕ) → bit (2 * n + b) k ≡ 1 → P (part - 1 + k)
   with_bit b m g zero q = rw add-zero (g (let x : (2 * n + b) / 2 ^ 0 ≡ 2 * n + b = div-one (2 * n + b) in omega arith))
   with_bit b m g (suc k) q = let x : part - 1 + suc k ≡ part + k = omega arith in rw x (h k (sym (halved n b k m) ∙ q))
 
-  pub bit_set : P (part - 1) → (k : ℕ) → bit (2 * n + 1) k ≡ 1 → P (part - 1 + k)
-  bit_set g = with_bit 1 (omega arith) (λ _. g)
+-- a flag as a bit
+pub flag_small : (b : Bool) → one_if b ≤ 1
+flag_small true = omega arith
+flag_small false = omega arith
 
-  pub bit_clear : (k : ℕ) → bit (2 * n) k ≡ 1 → P (part - 1 + k)
-  bit_clear k q = with_bit 0 (omega arith) (λ z. absurd (omega arith)) k (rw add-zero q)
+pub flag_one : (b : Bool) → one_if b ≡ 1 → b ≡ true
+flag_one true h = refl
+flag_one false h = absurd (omega arith)
 
 -- a bit for each part so far
 pub bits_more : (n parts part : ℕ) → 0 < part → part ≤ parts → n < 2 ^ (parts - part) → 2 * n + 1 < 2 ^ (parts - (part - 1))

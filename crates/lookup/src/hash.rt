@@ -28,10 +28,8 @@ pub fn hash_name(s: &[u8], at: usize, n: usize) -> u64
     ensures { (result ≡ hash_of (lossy (units n s.now at))) × (result < 2 ^ 32) }
 {
     let mut h: u64 = 0;
-    let mut i = 0;
-    while i < n {
+    for i in 0..n {
         h = (h + lossy_unit(s, at, n, i) % UNITS) * SPREAD % HASHES;
-        i += 1;
     }
     h
 }

@@ -1,75 +1,47 @@
 // The fields of a level. A name is not empty.
 ghost use Rattle.std.specs.Prelude.{◌≡◌, ◌≤◌, ◌<◌, length};
-ghost use Rattle.format.specs.Numbers.{unsigned, signed, float};
+ghost use Rattle.format.specs.Given.{maybe};
 ghost use Rattle.format.specs.Values.{slots_of, find, field, bind, as_level};
-ghost use Rattle.number.specs.Readings.{natural, integer, real};
-ghost use Rattle.lookup.specs.Table.{entries_in, Holds, found, Within};
+ghost use Rattle.lookup.specs.Table.{found, Within};
+ghost use Rattle.lookup.specs.View.{bytes, entries};
 ghost use Rattle.lookup.specs.Values.{field_meaning, FieldInside};
 
-use crate::ClxValue;
-use crate::entry::end_of;
-use crate::named::last_named;
-use crate::value::{as_f64, as_i64, as_u64, level_at, value_at};
+use crate::value::Reading;
+use crate::{ClxValue, Name, Tree};
 
-// The entry of a name: the last child with it.
-pub fn get_entry(
-    file: &[u8],
-    table: &[u8],
-    used: usize,
-    parent: usize,
-    name: &[u8],
-) -> Option<usize>
-    requires { Holds file.now table.now used × (parent ≤ used) × (0 < length name.now) }
-    ensures { (found result ≡ find name.now (slots_of file.now (entries_in table.now used) parent)) × Within used result }
-{
-    let end = end_of(table, used, parent);
-    last_named(file, table, used, parent, end, name)
-}
+impl<'a> Tree<'a> {
+    // The entry of a name: the last child with it.
+    pub fn get_entry(self, parent: usize, name: &[u8]) -> Option<usize>
+        requires { (parent ≤ self.used) × (0 < length name.now) }
+        ensures { (found result ≡ find name.now (slots_of (bytes self.entry) (entries self.entry) parent)) × Within self.entry.used result }
+    {
+        let end = self.end_of(parent);
+        self.last_named(parent, parent, end, None, Name::Ascii(name))
+    }
 
-// The value of a name.
-pub fn get(file: &[u8], table: &[u8], used: usize, parent: usize, name: &[u8]) -> Option<ClxValue>
-    requires { Holds file.now table.now used × (parent ≤ used) × (0 < length name.now) }
-    ensures { (field_meaning file.now (entries_in table.now used) result
-        ≡ field file.now (entries_in table.now used) parent name.now) × FieldInside used result }
-{
-    let i = get_entry(file, table, used, parent, name)?;
-    Some(value_at(file, table, used, i))
-}
+    // The value of a name.
+    pub fn get(self, parent: usize, name: &[u8]) -> Option<ClxValue>
+        requires { (parent ≤ self.used) × (0 < length name.now) }
+        ensures { (field_meaning (bytes self.entry) (entries self.entry) result
+            ≡ field (bytes self.entry) (entries self.entry) parent name.now) × FieldInside self.entry.used result }
+    {
+        let i = self.get_entry(parent, name)?;
+        Some(self.value_at(i))
+    }
 
-// The level of a name.
-pub fn get_level(
-    file: &[u8],
-    table: &[u8],
-    used: usize,
-    parent: usize,
-    name: &[u8],
-) -> Option<usize>
-    requires { Holds file.now table.now used × (parent ≤ used) × (0 < length name.now) }
-    ensures { (found result ≡ as_level (field file.now (entries_in table.now used) parent name.now)) × Within used result }
-{
-    level_at(table, used, get_entry(file, table, used, parent, name)?)
-}
+    // The level of a name.
+    pub fn get_level(self, parent: usize, name: &[u8]) -> Option<usize>
+        requires { (parent ≤ self.used) × (0 < length name.now) }
+        ensures { (found result ≡ as_level (field (bytes self.entry) (entries self.entry) parent name.now)) × Within self.entry.used result }
+    {
+        self.level_at(self.get_entry(parent, name)?)
+    }
 
-// The unsigned reading of a name's value.
-pub fn get_u64(file: &[u8], table: &[u8], used: usize, parent: usize, name: &[u8]) -> Option<u64>
-    requires { Holds file.now table.now used × (parent ≤ used) × (0 < length name.now) }
-    ensures { natural result ≡ bind (field file.now (entries_in table.now used) parent name.now) unsigned }
-{
-    as_u64(get(file, table, used, parent, name)?)
-}
-
-// The signed reading of a name's value.
-pub fn get_i64(file: &[u8], table: &[u8], used: usize, parent: usize, name: &[u8]) -> Option<i64>
-    requires { Holds file.now table.now used × (parent ≤ used) × (0 < length name.now) }
-    ensures { integer result ≡ bind (field file.now (entries_in table.now used) parent name.now) signed }
-{
-    as_i64(get(file, table, used, parent, name)?)
-}
-
-// A name's value as a double.
-pub fn get_f64(file: &[u8], table: &[u8], used: usize, parent: usize, name: &[u8]) -> Option<f64>
-    requires { Holds file.now table.now used × (parent ≤ used) × (0 < length name.now) }
-    ensures { real result ≡ bind (field file.now (entries_in table.now used) parent name.now) float }
-{
-    as_f64(get(file, table, used, parent, name)?)
+    // What a name's value reads as.
+    pub fn get_as<T: Reading>(self, parent: usize, name: &[u8]) -> Option<T>
+        requires { (parent ≤ self.used) × (0 < length name.now) }
+        ensures { maybe result ≡ bind (field (bytes self.entry) (entries self.entry) parent name.now) T.reading }
+    {
+        T::read(self.get(parent, name)?)
+    }
 }

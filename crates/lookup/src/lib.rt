@@ -3,15 +3,20 @@
 // looks at that run alone.
 #![tactic(auto)]
 
-pub mod child;
-pub mod entry;
+use format::Entry;
+
+mod child;
+mod entry;
 mod hash;
-pub mod level;
-pub mod list;
-pub mod named;
+mod level;
+mod list;
+mod named;
 mod parts;
-pub mod place;
+mod place;
+mod tree;
 pub mod value;
+
+pub use tree::Tree;
 
 // A value, by its kind. Below(n) is the whole number -1 - n; Text is a place in the file and a count of units, Bytes a place and a
 // count of bytes, Level the number of its entry, and List the number of the entry whose children are its elements.
@@ -25,6 +30,13 @@ pub enum ClxValue {
     Bytes(u64, u64),
     Level(usize),
     List(usize),
+}
+
+// A name that is looked for: of ASCII bytes, or an entry's.
+#[derive(Clone, Copy)]
+pub(crate) enum Name<'a> {
+    Ascii(&'a [u8]),
+    Of(Entry),
 }
 
 // What is known of the names in a level, which fall into parts: bit k of `clean` says that in part k no name comes twice. `first` is the

@@ -8,15 +8,6 @@ use Rattle.lookup.proofs.hash.hash_name.Goals as goal
 pub loop-i-init : goal.loop-i-init
 loop-i-init c = (omega arith, omega arith, hash_start _)
 
-pub lossy_unit-requires : goal.lossy_unit-requires
-lossy_unit-requires c = (c.loop-i-test.true, λ k h w. omega (arith, c.requires))
-
-pub overflow_add-h : goal.overflow_add-h
-overflow_add-h c = omega (arith, c.loop-i.invariant.1)
-
-pub overflow_mul-h : goal.overflow_mul-h
-overflow_mul-h c = omega (arith, c.loop-i.invariant.1)
-
 pub loop-i-preserved : goal.loop-i-preserved
 loop-i-preserved c =
     let v = c.loop-i.invariant in

@@ -21,9 +21,6 @@ unfolding fixed_len
 le-requires c =
     (omega arith, lies_fixed _ _ _ 4 c.requires.0 c.if-kind-eq-INT32.true (λ z. omega arith) (λ z. omega arith) (λ z. omega arith) refl)
 
-pub signed_of-requires : goal.signed_of-requires
-signed_of-requires c = omega (arith, c.le.ensures.1)
-
 pub returns-then-kind-eq-INT32 : goal.returns-then-kind-eq-INT32
 returns-then-kind-eq-INT32 c =
     let o = c.signed_of.ensures in

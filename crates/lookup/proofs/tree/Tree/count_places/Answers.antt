@@ -1,0 +1,31 @@
+-- n places stand before entry i of the level's run.
+use Prim.Native.Nat.{◌<◌}
+use mathlib.Core.Path.{sym, ◌∙◌}
+use native.Mathlib.Omega.{arith}
+use Rattle.lookup.specs.Table.{entry_in}
+use Rattle.lookup.proofs.Places.{placed_start, placed_here, placed_skip, placed_hop, placed_end}
+use Rattle.lookup.proofs.tree.Tree.count_places.Goals as goal
+use Rattle.lookup.proofs.tree.Tree.count_places.Goals.{then-leads_at, else-leads_at}
+
+pub loop-i-init : goal.loop-i-init
+loop-i-init c =
+    let p = c.requires in
+    (omega arith, c.end_of-end.ensures, c.know-known.ensures, placed_start _ _ _ _ c.args.self.holds.rows.order p)
+
+pub loop-i-preserved : goal.loop-i-preserved
+loop-i-preserved c =
+    let v = c.loop-i.invariant in
+    let r = c.after-i.ensures in
+    let l : c.loop-i.i < c.args.self.used = omega (arith, c.loop-i-test.true, v.1.below.high) in
+    let b = c.leads_at.ensures in (
+      omega (arith, v.0, r.below.low),
+      v.1,
+      v.2,
+      placed_hop _ (entry_in _) _ _ _ _ _ v.0 r (elim c.if-leads_at.branch [
+        | then-leads_at w ↦ rw w.n-is (placed_here _ (entry_in _) _ _ _ _ v.3 l (sym b ∙ w.if-leads_at.true))
+        | else-leads_at w ↦ rw w.n-is (placed_skip _ (entry_in _) _ _ _ _ v.3 l (sym b ∙ w.if-leads_at.false))
+      ]),
+    )
+
+pub returns : goal.returns
+returns c = placed_end _ (entry_in _) _ _ _ _ _ c.loop-i.invariant.3 c.loop-i.invariant.1 c.loop-i-test.false
