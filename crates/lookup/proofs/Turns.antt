@@ -19,7 +19,7 @@ use Rattle.lookup.specs.Walks.{leads, leads_in, Knows, named_or, slot_for, slot_
 use Rattle.lookup.specs.declared.ClxValue.{ClxValue}
 use Rattle.lookup.specs.declared.ClxValue.TheVariants as clx
 use Rattle.std.specs.Prelude as std
-use Rattle.lookup.specs.declared.Known.{Known}
+use Rattle.lookup.specs.declared.Level.{Level}
 use Rattle.lookup.specs.declared.Turn.{Turn}
 use Rattle.lookup.specs.declared.Turn.TheVariants as turn
 use Rattle.lookup.specs.contracts.ClxValue.{the_type}
@@ -192,16 +192,17 @@ module _ (s : List ℕ) (e : ℕ → Entry) (n : ℕ) (f : std.Option ClxValue) 
   unfolding child_levels
   walk_absent h = record { good = tt; rest = ap (child_levels s (firsts n e)) (absent_of s (firsts n e) f h) }
 
-  pub walk_level : (v : ClxValue) (i r : ℕ) (b : Known) → f ≡ std.Some v → v ≡ clx.Level i → Ordered e n → Run e n (i + 1) r → Knows s e (i + 1) r b
-      → Walk s e n (child_levels s (firsts n e) (field_meaning s (firsts n e) f)) (turn.Places (i + 1) r b (i + 1))
+  pub walk_level : (v : ClxValue) (i : ℕ) (b : Level) → f ≡ std.Some v → v ≡ clx.Level i → Ordered e n → b.parent ≡ i + 1 → Knows s e n b
+      → Walk s e n (child_levels s (firsts n e) (field_meaning s (firsts n e) f)) (turn.Places b (i + 1))
   unfolding child_levels
-  walk_level v i r b h k o q a =
+  walk_level v i b h k o q a =
       record {
-        good = (q, omega arith, a);
+        good = (a, omega arith);
         rest =
             ap (child_levels s (firsts n e)) (level_of_is s (firsts n e) f v i h k)
             ∙ ap (λ (p : ℕ). levels_in s (firsts n e) (slots_of s (firsts n e) p)) (sym (add-one i))
-            ∙ levels_all s e n (i + 1) o (omega (arith, q.below.low, q.below.high));
+            ∙ levels_all s e n (i + 1) o (omega (arith, q, a.run.below.low, a.run.below.high))
+            ∙ ap (λ (p : ℕ). place_levels s e n p (i + 1)) (sym q);
       }
 
   pub walk_empty : (v : ClxValue) (i : ℕ) → f ≡ std.Some v → v ≡ clx.List i → none ≡ head_of (elements_of s (firsts n e) (i + 1))
@@ -234,8 +235,8 @@ module _ (s : List ℕ) (e : ℕ → Entry) (n p k : ℕ) where
   behind_next i l h = record { walk = record { good = (l, λ s. sym (h s)); rest = refl }; less = omega arith }
 
 module _ (s : List ℕ) (e : ℕ → Entry) (n : ℕ) (t : Turn) where
-  pub standing_places : (p r : ℕ) (b : Known) (i : ℕ) → t ≡ turn.Places p r b i → Standing s e n t → Run e n p r × (p ≤ i) × Knows s e p r b
-  standing_places p r b i h g = subst (Standing s e n) h g
+  pub standing_places : (l : Level) (i : ℕ) → t ≡ turn.Places l i → Standing s e n t → Knows s e n l × (l.parent ≤ i)
+  standing_places l i h g = subst (Standing s e n) h g
 
   pub standing_elements : (p k i : ℕ) → t ≡ turn.Elements p k i → Standing s e n t
       → (i < n) × ((s : List ℕ) → get_elem? (elements_of s (firsts n e) p) k ≡ some i)

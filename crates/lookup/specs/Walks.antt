@@ -9,7 +9,7 @@ use Rattle.format.specs.declared.Entry.{Entry}
 use Rattle.lookup.specs.Table.{firsts, between, last_named, is_none, Run}
 use Rattle.lookup.specs.Hash.{hash_of, key_of, Marked}
 use Rattle.lookup.specs.Values.{unnamed_in, elements_of}
-use Rattle.lookup.specs.declared.Known.{Known}
+use Rattle.lookup.specs.declared.Level.{Level}
 use Rattle.lookup.specs.declared.Turn.{Turn}
 use Rattle.lookup.specs.declared.Turn.TheVariants as turn
 
@@ -37,12 +37,13 @@ pub record Seen (s : List ℕ) (e : ℕ → Entry) (p parts part i : ℕ) (marks
 abbrev pub bit : ℕ → ℕ → ℕ
 bit n k = n / 2 ^ k % 2
 
--- what is known of a level's names: in each part whose bit is set no name comes twice, and the first child without a name
-pub record Knows (s : List ℕ) (e : ℕ → Entry) (p r : ℕ) (w : Known) : Type 0 where
-  pub some : 0 < w.parts
-  pub few : w.parts ≤ 64
-  pub clean : (k : ℕ) → bit w.clean k ≡ 1 → PartLeads s e p r w.parts k
-  pub first : (i : ℕ) → p ≤ i → i < r → (e i).parent ≡ p → (e i).units ≡ 0 → eqb i w.first ≡ leads s e p i
+-- what is known of a level, of n entries: its run; in each part of its names whose bit is set none comes twice; the first child without a name
+pub record Knows (s : List ℕ) (e : ℕ → Entry) (n : ℕ) (l : Level) : Type 0 where
+  pub run : Run e n l.parent l.end
+  pub some : 0 < l.parts
+  pub few : l.parts ≤ 64
+  pub clean : (k : ℕ) → bit l.clean k ≡ 1 → PartLeads s e l.parent l.end l.parts k
+  pub first : (i : ℕ) → l.parent ≤ i → i < l.end → (e i).parent ≡ l.parent → (e i).units ≡ 0 → eqb i l.first ≡ leads s e l.parent i
 
 -- the places from entry i on, of n entries
 unfoldable pub leads_in : List ℕ → (ℕ → Entry) → ℕ → ℕ → ℕ → List ℕ
@@ -74,13 +75,13 @@ place_levels s e n p i = levels_in s (firsts n e) (slots_at s e n p (leads_in s 
 
 -- the child levels that a walk has still before it
 abbrev pub rest_of : List ℕ → (ℕ → Entry) → ℕ → Turn → List ℕ
-rest_of s e n (turn.Places p r w i) = place_levels s e n p i
+rest_of s e n (turn.Places l i) = place_levels s e n l.parent i
 rest_of s e n (turn.Elements p k i) = levels_of s (firsts n e) (drop k (elements_of s (firsts n e) p))
 rest_of s e n turn.Over = []
 
--- places are looked for in the level's run, of whose names something is known; entry i is element number k, whatever the file
+-- places are looked for in the level's run; entry i is element number k, whatever the file
 abbrev pub Standing : List ℕ → (ℕ → Entry) → ℕ → Turn → Type 0
-Standing s e n (turn.Places p r w i) = Run e n p r × (p ≤ i) × Knows s e p r w
+Standing s e n (turn.Places l i) = Knows s e n l × (l.parent ≤ i)
 Standing s e n (turn.Elements p k i) = (i < n) × ((s : List ℕ) → get_elem? (elements_of s (firsts n e) p) k ≡ some i)
 Standing s e n turn.Over = Unit
 
@@ -91,7 +92,7 @@ pub record Walk (s : List ℕ) (e : ℕ → Entry) (n : ℕ) (l : List ℕ) (t :
 
 -- how many elements a walk has still before it
 abbrev pub left_of : List ℕ → (ℕ → Entry) → ℕ → Turn → ℕ
-left_of s e n (turn.Places p r w i) = 0
+left_of s e n (turn.Places l i) = 0
 left_of s e n (turn.Elements p k i) = length (elements_of s (firsts n e) p) - k
 left_of s e n turn.Over = 0
 

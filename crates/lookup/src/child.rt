@@ -38,15 +38,8 @@ impl<'a> Tree<'a> {
         };
         match v {
             ClxValue::Level(i) => {
-                let parent = i + 1;
-                let end = self.end_of(parent);
-                let known = self.know(parent, end);
-                Turn::Places {
-                    parent,
-                    end,
-                    known,
-                    at: parent,
-                }
+                let level = self.level(i + 1);
+                Turn::Places { level, at: i + 1 }
             }
             ClxValue::List(i) => {
                 let parent = i + 1;
@@ -89,13 +82,8 @@ impl<'a> Tree<'a> {
                 Turn::Over => {
                     return None;
                 }
-                Turn::Places {
-                    parent,
-                    end,
-                    known,
-                    at,
-                } => {
-                    return self.next_place(parent, end, known, at);
+                Turn::Places { level, at } => {
+                    return self.next_place(level, at);
                 }
                 Turn::Elements { parent, before, at } => {
                     let rest = self.after_element(parent, before, at);

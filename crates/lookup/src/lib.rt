@@ -7,8 +7,8 @@ use format::Entry;
 
 mod child;
 mod entry;
+mod field;
 mod hash;
-mod level;
 mod list;
 mod named;
 mod parts;
@@ -39,10 +39,12 @@ pub(crate) enum Name<'a> {
     Of(Entry),
 }
 
-// What is known of the names in a level, which fall into parts: bit k of `clean` says that in part k no name comes twice. `first` is the
-// first child without a name.
+// A level to go over: its run ends at `end`. Its names fall into parts, and bit k of `clean` says that in part k no name comes twice.
+// `first` is the first child without a name.
 #[derive(Clone, Copy)]
-pub struct Known {
+pub struct Level {
+    pub parent: usize,
+    pub end: usize,
     pub parts: u64,
     pub clean: u64,
     pub first: usize,
@@ -51,11 +53,9 @@ pub struct Known {
 // Where a walk over child levels stands.
 #[derive(Clone, Copy)]
 pub enum Turn {
-    // in a level whose run ends at `end`: at the places from entry `at` on
+    // in a level: at the places from entry `at` on
     Places {
-        parent: usize,
-        end: usize,
-        known: Known,
+        level: Level,
         at: usize,
     },
     // in a list: at element number `before`, which is entry `at`

@@ -1,13 +1,12 @@
 // The names of a level in parts, and the parts in which no name comes twice. In most levels these are all: then each child is a place, with its own value.
 ghost use Rattle.std.specs.Prelude.{◌≡◌, true, ℕ, ◌+◌, ◌*◌, ◌%◌, ◌^◌, ◌≤◌, ◌<◌, List, eqb, length};
 ghost use Rattle.format.specs.Values.{name_of};
-ghost use Rattle.lookup.specs.Table.{Run};
 ghost use Rattle.lookup.specs.View.{bytes, row};
 ghost use Rattle.lookup.specs.Hash.{hash_of, key_of};
 ghost use Rattle.lookup.specs.Walks.{leads, PartLeads, Seen, bit, Knows};
 
 use crate::hash::{MARKS, hash_name, key_name, mark};
-use crate::{Known, Tree};
+use crate::{Level, Tree};
 
 // A part of a level's names has about this many, and there are at most so many parts.
 const PART: u64 = 64;
@@ -105,28 +104,28 @@ impl<'a> Tree<'a> {
         self.next_unnamed(parent, parent).unwrap_or(end)
     }
 
-    // What is known of the names of a level.
-    pub fn know(self, parent: usize, end: usize) -> Known
-        requires { Run (row self) self.used parent end }
-        ensures { Knows (bytes self.entry) (row self.entry) parent end result }
+    // A level, and what is known of its names.
+    pub fn level(self, parent: usize) -> Level
+        requires { parent ≤ self.used }
+        ensures { (result.parent ≡ parent) × Knows (bytes self.entry) (row self.entry) self.entry.used result }
     {
+        let end = self.end_of(parent);
         let parts = self.parts_of(parent, end);
-        let clean = self.clean_parts(parent, end, parts);
-        let first = self.first_unnamed(parent, end);
-        Known {
+        Level {
+            parent,
+            end,
             parts,
-            clean,
-            first,
+            clean: self.clean_parts(parent, end, parts),
+            first: self.first_unnamed(parent, end),
         }
     }
 
     // Whether the name of entry i, which has one, is surely no other child's.
-    pub fn alone(self, known: Known, i: usize) -> bool
-        requires { (i < self.used) × (0 < (row self i).units)
-            × (0 < known.parts) × (known.parts ≤ 64) }
-        ensures { result ≡ true → bit known.clean (key_of (name_of (bytes self.entry) (row self.entry i)) % known.parts) ≡ 1 }
+    pub fn alone(self, level: Level, i: usize) -> bool
+        requires { (i < self.used) × (0 < (row self i).units) × (0 < level.parts) × (level.parts ≤ 64) }
+        ensures { result ≡ true → bit level.clean (key_of (name_of (bytes self.entry) (row self.entry i)) % level.parts) ≡ 1 }
     {
-        let part = self.key_at(i) % known.parts;
-        (known.clean >> part) % 2 == 1
+        let part = self.key_at(i) % level.parts;
+        (level.clean >> part) % 2 == 1
     }
 }

@@ -7,7 +7,7 @@ ghost use Rattle.lookup.specs.View.{bytes, row, entries};
 ghost use Rattle.lookup.specs.Values.{kids};
 ghost use Rattle.lookup.specs.Walks.{leads, Knows, slot_at, place_levels, NextOf};
 
-use crate::{Known, Name, Tree, Turn};
+use crate::{Level, Name, Tree, Turn};
 
 impl<'a> Tree<'a> {
     // Whether entry i of a level's run is a child, and the first of its name.
@@ -20,18 +20,18 @@ impl<'a> Tree<'a> {
     }
 
     // The same, by what is known of the level.
-    fn leads_at(self, parent: usize, end: usize, known: Known, i: usize) -> bool
-        requires { (parent ≤ i) × (i < end) × (end ≤ self.used) × Knows (bytes self) (row self) parent end known }
-        ensures { result ≡ leads (bytes self.entry) (row self.entry) parent i }
+    fn leads_at(self, level: Level, i: usize) -> bool
+        requires { Knows (bytes self) (row self) self.used level × (level.parent ≤ i) × (i < level.end) }
+        ensures { result ≡ leads (bytes self.entry) (row self.entry) level.parent i }
     {
         let e = self.entry_at(i);
-        if e.parent as usize != parent {
+        if e.parent as usize != level.parent {
             return false;
         }
         if e.units == 0 {
-            return i == known.first;
+            return i == level.first;
         }
-        self.alone(known, i) || self.is_place(parent, i)
+        self.alone(level, i) || self.is_place(level.parent, i)
     }
 
     // How many places a level has.
@@ -39,12 +39,11 @@ impl<'a> Tree<'a> {
         requires { parent ≤ self.used }
         ensures { result ≡ length (slots_of (bytes self.entry) (entries self.entry) parent) }
     {
-        let end = self.end_of(parent);
-        let known = self.know(parent, end);
+        let level = self.level(parent);
         let mut n: u64 = 0;
-        let mut i = parent;
-        while i < end {
-            if self.leads_at(parent, end, known, i) {
+        let mut i = level.parent;
+        while i < level.end {
+            if self.leads_at(level, i) {
                 n += 1;
             }
             i = self.after(i);
@@ -77,47 +76,33 @@ impl<'a> Tree<'a> {
     }
 
     // The level that the value of a place is: the last value of its name, which is its own where no other child has the name.
-    pub fn place_level(self, parent: usize, end: usize, known: Known, i: usize) -> Option<usize>
-        requires { Run (row self) self.used parent end × (parent ≤ i) × (i < end)
-            × ((row self i).parent ≡ parent) × Knows (bytes self) (row self) parent end known }
+    pub fn place_level(self, level: Level, i: usize) -> Option<usize>
+        requires { Knows (bytes self) (row self) self.used level × (level.parent ≤ i) × (i < level.end) × ((row self i).parent ≡ level.parent) }
         ensures { (found result ≡ as_level (some (slot_value (bytes self.entry) (entries self.entry)
-            (slot_at (bytes self.entry) (row self.entry) self.entry.used parent i)))) × Within self.entry.used result }
+            (slot_at (bytes self.entry) (row self.entry) self.entry.used level.parent i)))) × Within self.entry.used result }
     {
         let e = self.entry_at(i);
         if e.units == 0 {
-            return self.unnamed_level(parent);
+            return self.unnamed_level(level.parent);
         }
-        if self.alone(known, i) {
+        if self.alone(level, i) {
             return self.level_at(i);
         }
-        self.level_at(self.last_of(parent, end, i)?)
+        self.level_at(self.last_of(level.parent, level.end, i)?)
     }
 
     // The next child level of a level, from entry `from` of its run on.
-    pub fn next_place(
-        self,
-        parent: usize,
-        end: usize,
-        known: Known,
-        from: usize,
-    ) -> Option<(usize, Turn)>
-        requires { Run (row self) self.used parent end × (parent ≤ from)
-            × Knows (bytes self) (row self) parent end known }
+    pub fn next_place(self, level: Level, from: usize) -> Option<(usize, Turn)>
+        requires { Knows (bytes self) (row self) self.used level × (level.parent ≤ from) }
         ensures { NextOf (bytes self.entry) (row self.entry) self.entry.used
-            (place_levels (bytes self.entry) (row self.entry) self.entry.used parent from) result }
+            (place_levels (bytes self.entry) (row self.entry) self.entry.used level.parent from) result }
     {
         let mut i = from;
-        while i < end {
+        while i < level.end {
             let next = self.after(i);
-            if self.leads_at(parent, end, known, i) {
-                if let Some(k) = self.place_level(parent, end, known, i) {
-                    let rest = Turn::Places {
-                        parent,
-                        end,
-                        known,
-                        at: next,
-                    };
-                    return Some((k, rest));
+            if self.leads_at(level, i) {
+                if let Some(k) = self.place_level(level, i) {
+                    return Some((k, Turn::Places { level, at: next }));
                 }
             }
             i = next;

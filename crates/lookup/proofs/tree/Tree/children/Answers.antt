@@ -9,8 +9,8 @@ returns-in_default c = walk_absent _ (entry_in _) _ _ c.in_default.is
 
 pub returns-in-Level : goal.returns-in-Level
 returns-in-Level c =
-    walk_level _ (entry_in _) _ _ _ _ _ _ c.in-Some.is c.in-Level.is
-    c.args.self.holds.rows.order c.end_of-end.ensures c.know-known.ensures
+    walk_level _ (entry_in _) _ _ _ _ _ c.in-Some.is c.in-Level.is
+    c.args.self.holds.rows.order c.level-level.ensures.0 c.level-level.ensures.1
 
 pub returns-in-None : goal.returns-in-None
 returns-in-None c =

@@ -18,16 +18,16 @@ returns-then-alone c =
     let p = c.requires in
     let e = c.entry_at-e in
     let u = c.if-e-eq0.false in
-    let m = p.4.clean _ (c.alone.ensures c.if-alone.true) in
+    let m = p.0.clean _ (c.alone.ensures c.if-alone.true) in
     let z = last_alone _ (entry_in _) _ _ _ _ m p.1 p.2 p.3 (λ z. u (ap (λ (y : Entry). y.units) e.ensures ∙ z)) in
-    (place_named _ (entry_in _) _ _ _ e.result e.ensures _ _ _ p.0 u (sym (rw e.ensures z)) (c.level_at.ensures.0 _), c.level_at.ensures.1)
+    (place_named _ (entry_in _) _ _ _ e.result e.ensures _ _ _ p.0.run u (sym (rw e.ensures z)) (c.level_at.ensures.0 _), c.level_at.ensures.1)
 
 pub returns-in_err-last_of : goal.returns-in_err-last_of
 unfolding name_of
 returns-in_err-last_of c =
     let e = c.entry_at-e in
     rw c.from_residual.ensures (
-      place_absent _ (entry_in _) _ _ _ e.result e.ensures _ c.requires.0 c.if-e-eq0.false (rw e.ensures c.in_err-last_of.ensures.0),
+      place_absent _ (entry_in _) _ _ _ e.result e.ensures _ c.requires.0.run c.if-e-eq0.false (rw e.ensures c.in_err-last_of.ensures.0),
       tt,
     )
 
@@ -35,7 +35,7 @@ pub returns : goal.returns
 unfolding name_of
 returns c =
     let e = c.entry_at-e in (
-      place_named _ (entry_in _) _ _ _ e.result e.ensures _ _ _ c.requires.0
+      place_named _ (entry_in _) _ _ _ e.result e.ensures _ _ _ c.requires.0.run
           c.if-e-eq0.false (rw e.ensures c.in_ok-last_of.ensures.0) (c.level_at-2.ensures.0 _),
       c.level_at-2.ensures.1,
     )
