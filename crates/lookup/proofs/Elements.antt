@@ -418,14 +418,6 @@ module _ (e : ℕ → Entry) (n p k : ℕ) (ys : List ℕ) (o : Ordered e n) (a 
       go (top y w) = absurd (x (own ∙ y))
       go (up zs l b y) = omega (arith, l, own)
 
--- whether entry i is a list, as the code has it
-module _ (s : List ℕ) (e : ℕ → Entry) (n i : ℕ) (r : Entry) (q : r ≡ e i) where
-  pub list_yes : (b : Bool) → r.kind ≡ 11 → b ≡ only_unnamed (slots_of s (firsts n e) (i + 1)) → b ≡ list_at s e n i
-  list_yes b h k = sym (rw (← q, eq-eqb _ _ h, ← add-one) (sym k))
-
-  pub list_no : (r.kind ≡ 11 → ⊥) → false ≡ list_at s e n i
-  list_no h = sym (rw (← q, ne_eqb _ _ h))
-
 -- ---- elements by their number
 
 pub get_head : (l : List ℕ) (k : ℕ) → head_of (drop k l) ≡ get_elem? l k

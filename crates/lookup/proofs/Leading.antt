@@ -5,11 +5,10 @@ use mathlib.Core.Bool.{Bool, true, false, true≢false}
 use mathlib.Core.Option.{Option, none, some}
 use mathlib.Core.List.{List}
 use native.Mathlib.Decide.{dec_lt, ℕ_discrete}
-use native.Mathlib.Nat.{add-zero, pow-succ', zero-div, div-one, div-div-eq-div-mul}
+use native.Mathlib.Nat.{add-zero, pow-succ', div-one, div-div-eq-div-mul}
 use native.Mathlib.Omega.{arith}
 use lib.Dec.{eqb}
 use lib.ListN.{length}
-use lib.Pow.{pow_mono}
 use borrow.Author.Tests.{eq-eqb, ne_eqb, eqb-true}
 use Rattle.format.proofs.Ground.Tests.{and_left, and_right, same_true, same_refl}
 use Rattle.format.specs.Numbers.{one_if}
@@ -21,7 +20,7 @@ use Rattle.lookup.specs.Walks.{leads, PartLeads, Seen, bit}
 use Rattle.lookup.specs.Values.{unnamed_child, kids, head_of}
 use Rattle.lookup.proofs.Between.{Foremost, between_first, between_empty}
 use Rattle.lookup.proofs.Lists.{no_name, some_name}
-use Rattle.lookup.proofs.Rows.{child_after, hop}
+use Rattle.lookup.proofs.Rows.{child_after}
 use Rattle.lookup.proofs.Search.{last_until, last_yes, last_nowhere, nowhere_last, sought_on}
 
 -- ---- what a name that is borne says
@@ -136,9 +135,6 @@ module _ (s : List ℕ) (e : ℕ → Entry) (p : ℕ) where
   -- ---- marks
 
   module _ (parts part : ℕ) where
-    pub seen_start : (marks : List ℕ) → Seen s e p parts part p marks
-    seen_start marks = record { leading = λ k a b. absurd (omega arith); marked = λ k a b. absurd (omega arith) }
-
     -- entry i is passed, and marks stay
     pub seen_more : (i : ℕ) (marks marks' : List ℕ) → Seen s e p parts part i marks → ((g : ℕ) → Marked marks g → Marked marks' g)
         → (key_of (name_of s (e i)) % parts ≡ part → (e i).parent ≡ p → ((e i).units ≡ 0 → ⊥)
@@ -171,26 +167,9 @@ module _ (s : List ℕ) (e : ℕ → Entry) (p : ℕ) where
             go (yes y) = child_after e n p o k (omega arith) y (borne_child _ k z)
             go (no y) = f (rw name (h.marked k (omega (arith, y)) a (rw (← name) c) (borne_child _ k z) (both_named i k name u)))
 
-    pub seen_hop : (n i j : ℕ) (marks : List ℕ) → p ≤ i → Run e n (i + 1) j → Seen s e p parts part (i + 1) marks → Seen s e p parts part j marks
-    seen_hop n i j marks l r h =
-        record { leading = λ k a b c d u. go k a b c d u (dec_lt k (i + 1)); marked = λ k a b c d u. at k a b c d u (dec_lt k (i + 1)) }
-      where
-        go : (k : ℕ) → p ≤ k → k < j → key_of (name_of s (e k)) % parts ≡ part → (e k).parent ≡ p → ((e k).units ≡ 0 → ⊥) → Dec (k < i + 1)
-            → leads s e p k ≡ true
-        go k a b c d u (yes y) = h.leading k a y c d u
-        go k a b c d u (no y) = absurd (hop e n p i j l r k (omega (arith, y)) b d)
-
-        at : (k : ℕ) → p ≤ k → k < j → key_of (name_of s (e k)) % parts ≡ part → (e k).parent ≡ p → ((e k).units ≡ 0 → ⊥) → Dec (k < i + 1)
-            → Marked marks (hash_of (name_of s (e k)))
-        at k a b c d u (yes y) = h.marked k a y c d u
-        at k a b c d u (no y) = absurd (hop e n p i j l r k (omega (arith, y)) b d)
-
 -- ---- bits
 
 -- one bit more in front
-pub bit_none : (k : ℕ) → bit 0 k ≡ 1 → ⊥
-bit_none k h = let x : 0 / 2 ^ k ≡ 0 = zero-div (2 ^ k) in omega arith
-
 halved : (n b k : ℕ) → b ≤ 1 → bit (2 * n + b) (suc k) ≡ bit n k
 halved n b k l =
     let x : 2 ^ suc k ≡ 2 * 2 ^ k = pow-succ' 2 k in
@@ -217,6 +196,3 @@ bits_more n parts part l m h =
     let x : parts - (part - 1) ≡ suc (parts - part) = omega arith in
     let y : 2 ^ suc (parts - part) ≡ 2 * 2 ^ (parts - part) = pow-succ' 2 (parts - part) in
     rw (x, y) (omega arith)
-
-pub bits_fit : (n k : ℕ) → k ≤ 64 → n < 2 ^ k → n < 2 ^ 64
-bits_fit n k l h = omega (arith, pow_mono l)

@@ -24,17 +24,6 @@ module _ (s : List ℕ) (es : List Entry) where
   unfolding meaning as_level
   level_is v i h = rw h refl
 
-  pub level_other : (v : ClxValue) → OneOf (0 ∷ 1 ∷ 2 ∷ 3 ∷ 4 ∷ 5 ∷ 7 ∷ []) (tag_of the_type v) → none ≡ as_level (some (meaning s es v))
-  unfolding meaning as_level
-  level_other (clx.Flag b) h = refl
-  level_other (clx.Whole n) h = refl
-  level_other (clx.Below n) h = refl
-  level_other (clx.Double x) h = refl
-  level_other (clx.Text a n) h = refl
-  level_other (clx.Bytes a n) h = refl
-  level_other (clx.Level i) h = absurd (miss (0 ∷ 1 ∷ 2 ∷ 3 ∷ 4 ∷ 5 ∷ 7 ∷ []) 6 tt h)
-  level_other (clx.List i) h = refl
-
   -- ---- an unsigned number
 
   pub unsigned_flag : (v : ClxValue) (b : Bool) (n : ℕ) → v ≡ clx.Flag b → n ≡ one_if b → some n ≡ unsigned (meaning s es v)

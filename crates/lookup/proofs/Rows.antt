@@ -74,30 +74,12 @@ module _ (e : ℕ → Entry) (n p : ℕ) (o : Ordered e n) where
   slots_low s zero l m = slots_start s p e
   slots_low s (suc i) l m = slots_same s p i e (child_after i m l) ∙ slots_low s i (omega arith) (omega arith)
 
--- ---- a part of a level's run
-
-module _ (e : ℕ → Entry) (n p : ℕ) where
-  pub below_none : p ≤ n → Below e n p p
-  below_none l = record { low = omega arith; high = l; inner = λ k a b. absurd (omega arith) }
-
 -- ---- where a run ends
-
-pub run_whole : (e : ℕ → Entry) (n : ℕ) → Run e n 0 n
-run_whole e n =
-    record {
-      below = record { low = omega arith; high = omega arith; inner = λ k a b. omega arith };
-      stop = λ l. absurd (omega arith);
-      over = λ k a b z. omega arith;
-    }
 
 module _ (e : ℕ → Entry) (n i : ℕ) (o : Ordered e n) where
   -- entry r ends what lies below entry i
   run_at : (r : ℕ) → Below e n (i + 1) r → (r < n → (e r).parent < i + 1) → Run e n (i + 1) r
   run_at r b h = record { below = b; stop = h; over = λ k l m z. o.nested (i + 1) r k b.low l m (h (omega arith)) z }
-
-  -- nothing lies below entry i
-  pub run_none : i < n → (i + 1 < n → (e (i + 1)).parent < i + 1) → Run e n (i + 1) (i + 1)
-  run_none l h = run_at (i + 1) (below_none e n (i + 1) (omega arith)) h
 
   -- what lies below entry i has its name in the value
   pub run_split : (r : ℕ) → i < n → Split e (i + 1) n ((e i).value + (e i).size) r → Run e n (i + 1) r
@@ -146,16 +128,3 @@ module _ (e : ℕ → Entry) (n : ℕ) (o : Ordered e n) where
       go : Dec (k < i) → (e k).name ≤ to
       go (yes y) = let x = o.rising k i y l in omega arith
       go (no y) = let x : k ≡ i = omega (arith, y) in rw x h
-
-  pub split_less : (p i m to r : ℕ) → i ≤ m → m ≤ n → ((k : ℕ) → p ≤ k → k < i → (e k).name ≤ to) → p ≤ i → (m < n → to < (e m).name)
-      → Split e i m to r → Split e p n to r
-  split_less p i m to r a b f c g q =
-      record { low = omega (arith, q.low); high = omega (arith, q.high); by = λ k x y. by k x y (dec_lt k i); behind = λ l. behind l (dec_lt r m) }
-    where
-      by : (k : ℕ) → p ≤ k → k < r → Dec (k < i) → (e k).name ≤ to
-      by k x y (yes z) = f k x z
-      by k x y (no z) = q.by k (omega (arith, z)) y
-
-      behind : r < n → Dec (r < m) → to < (e r).name
-      behind l (yes z) = q.behind z
-      behind l (no z) = let x : r ≡ m = omega (arith, z, q.high) in rw x (g (omega arith))

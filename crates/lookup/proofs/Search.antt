@@ -89,9 +89,6 @@ module _ (s : List ℕ) (e : ℕ → Entry) (p : ℕ) (m : List ℕ) where
     pub named_child : (b : Bool) → r.parent ≡ p → b ≡ same m (name_of s r) → b ≡ child_named s e p m i
     named_child b h k = rw (← q, eq-eqb _ _ h) k
 
-    pub named_other : (r.parent ≡ p → ⊥) → false ≡ child_named s e p m i
-    named_other h = sym (rw (← q, ne_eqb _ _ h))
-
   pub last_none : (n r : ℕ) → Ordered e n → r ≤ p → r ≤ n → last_named s e p m r ≡ none
   last_none n r o l k = last_nowhere r (λ i a. not_child i (child_after e n p o i (omega arith) (omega arith)))
 

@@ -15,7 +15,7 @@ use Rattle.format.specs.Values.{level, list, Slot, unnamed, name_of, slots_of, f
 use Rattle.format.specs.declared.Entry.{Entry}
 use Rattle.lookup.specs.Table.{firsts, Ordered, Run, last_named}
 use Rattle.lookup.specs.Values.{kids, head_of, elements_of, meaning, field_meaning}
-use Rattle.lookup.specs.Walks.{leads, leads_in, Knows, named_or, slot_for, slot_at, slots_at, place_levels, rest_of, Standing, Walk, left_of, Behind, NextOf}
+use Rattle.lookup.specs.Walks.{leads, leads_in, Knows, named_or, slot_for, slot_at, slots_at, place_levels, rest_of, Standing, Walk, left_of, Behind}
 use Rattle.lookup.specs.declared.ClxValue.{ClxValue}
 use Rattle.lookup.specs.declared.ClxValue.TheVariants as clx
 use Rattle.std.specs.Prelude as std
@@ -231,13 +231,7 @@ module _ (s : List ℕ) (e : ℕ → Entry) (n p k : ℕ) where
   pub behind_end : none ≡ get_elem? (elements_of s (firsts n e) p) (k + 1) → Behind s e n p k turn.Over
   behind_end h = record { walk = record { good = tt; rest = items_past s (firsts n e) (elements_of s (firsts n e) p) (k + 1) h }; less = omega arith }
 
-  pub behind_next : (i : ℕ) → i < n → ((s : List ℕ) → some i ≡ get_elem? (elements_of s (firsts n e) p) (k + 1)) → Behind s e n p k (turn.Elements p (k + 1) i)
-  behind_next i l h = record { walk = record { good = (l, λ s. sym (h s)); rest = refl }; less = omega arith }
-
 module _ (s : List ℕ) (e : ℕ → Entry) (n : ℕ) (t : Turn) where
-  pub standing_places : (l : Level) (i : ℕ) → t ≡ turn.Places l i → Standing s e n t → Knows s e n l × (l.parent ≤ i)
-  standing_places l i h g = subst (Standing s e n) h g
-
   pub standing_elements : (p k i : ℕ) → t ≡ turn.Elements p k i → Standing s e n t
       → (i < n) × ((s : List ℕ) → get_elem? (elements_of s (firsts n e) p) k ≡ some i)
   standing_elements p k i h g = subst (Standing s e n) h g
@@ -260,6 +254,3 @@ module _ (s : List ℕ) (e : ℕ → Entry) (n : ℕ) (t : Turn) where
         let x = get_less (elements_of s (firsts n e) p) k i g in
         let y = ap (left_of s e n) h in
         omega (arith, b.less, x, y)
-
-pub next_same : (s : List ℕ) (e : ℕ → Entry) (n : ℕ) (l m : List ℕ) (r : std.Option (ℕ × Turn)) → l ≡ m → NextOf s e n m r → NextOf s e n l r
-next_same s e n l m r h k = subst (λ (x : List ℕ). NextOf s e n x r) (sym h) k
