@@ -5,13 +5,13 @@ ghost use Rattle.std.specs.Prelude.{◌≡◌, ◌*◌, ◌≤◌, ltb};
 ghost use Rattle.format.specs.Bytes.{most64};
 ghost use Rattle.format.specs.Numbers.{below32};
 ghost use Rattle.format.specs.Attributes.{bad_shape, bad_bits, plane_bytes, uncompressed, attributes};
-ghost use Rattle.lookup.specs.Table.{Holds, entries_in};
+ghost use Rattle.lookup.specs.View.{bytes, entries};
 ghost use Rattle.number.specs.Readings.{natural, integer};
 ghost use Rattle.attributes.specs.Parsed.{answer, five_of, judged_by, attributes_in};
 
 use format::Attributes;
 use format::refusal::Refusal;
-use lookup::level::{get_i64, get_level, get_u64};
+use lookup::Tree;
 
 // What eCompression says of frames that are not compressed.
 const COMPRESSION_NONE: i64 = 2;
@@ -112,30 +112,26 @@ fn judged(plain: bool, a: Attributes) -> Result<Attributes, Refusal>
 // ---- from the tree
 
 // The attributes in a level.
-fn attributes_in(
-    file: &[u8],
-    table: &[u8],
-    used: usize,
-    parent: usize,
-) -> Result<Attributes, Refusal>
-    requires { Holds file.now table.now used × (parent ≤ used) }
-    ensures { answer result ≡ attributes_in file.now (entries_in table.now used) parent }
+fn attributes_in(tree: Tree, parent: usize) -> Result<Attributes, Refusal>
+    requires { parent ≤ tree.used }
+    ensures { answer result ≡ attributes_in (bytes tree.entry) (entries tree.entry) parent }
 {
-    let width = get_u64(file, table, used, parent, b"uiWidth");
-    let stride = get_u64(file, table, used, parent, b"uiWidthBytes");
-    let height = get_u64(file, table, used, parent, b"uiHeight");
-    let components = get_u64(file, table, used, parent, b"uiComp");
-    let bits = to_u32(get_u64(file, table, used, parent, b"uiBpcInMemory"));
-    let plain = is_plain(get_i64(file, table, used, parent, b"eCompression"));
+    let width = tree.get_as::<u64>(parent, b"uiWidth");
+    let stride = tree.get_as::<u64>(parent, b"uiWidthBytes");
+    let height = tree.get_as::<u64>(parent, b"uiHeight");
+    let components = tree.get_as::<u64>(parent, b"uiComp");
+    let bits = to_u32(tree.get_as::<u64>(parent, b"uiBpcInMemory"));
+    let plain = is_plain(tree.get_as::<i64>(parent, b"eCompression"));
     let a = five(width, stride, height, components, bits)?;
     judged(plain, a)
 }
 
 // The attributes of a tree that was read whole.
-pub fn parse_attributes(file: &[u8], table: &[u8], used: usize) -> Result<Attributes, Refusal>
-    requires { Holds file.now table.now used }
-    ensures { answer result ≡ attributes file.now (entries_in table.now used) }
+pub fn parse_attributes(tree: Tree) -> Result<Attributes, Refusal>
+    ensures { answer result ≡ attributes (bytes tree.entry) (entries tree.entry) }
 {
-    let i = get_level(file, table, used, 0, b"SLxImageAttributes").ok_or(Refusal::Missing)?;
-    attributes_in(file, table, used, i + 1)
+    let i = tree
+        .get_level(0, b"SLxImageAttributes")
+        .ok_or(Refusal::Missing)?;
+    attributes_in(tree, i + 1)
 }

@@ -6,7 +6,7 @@ use Rattle.format.specs.Answer.{and_then}
 use Rattle.format.specs.Bytes.{ascii}
 use Rattle.format.specs.Numbers.{below32}
 use Rattle.format.specs.Attributes.{uncompressed}
-use Rattle.lookup.specs.Table.{entries_in}
+use Rattle.lookup.specs.View.{bytes, entries}
 use Rattle.attributes.specs.Parsed.{answer, judged_by, attributes_in}
 use Rattle.attributes.proofs.Chain.{of_readings}
 use Rattle.attributes.proofs.attributes_in.Goals as goal
@@ -15,17 +15,17 @@ use Rattle.attributes.proofs.attributes_in.Goals.{After-five}
 -- the level's attributes, after the five numbers
 readings : (c : After-five)
     → let a = c.args in
-    attributes_in a.file.now (entries_in a.table.now a.used) a.parent
+    attributes_in (bytes a.tree) (entries a.tree) a.parent
     ≡ and_then (answer c.five.result) (judged_by c.is_plain-plain.result)
 unfolding ascii
 readings c =
     of_readings _ _ _ _ _ _ _ _ _ _
-    c.get_u64-width.ensures
-    c.get_u64-stride.ensures
-    c.get_u64-height.ensures
-    c.get_u64-components.ensures
-    (c.to_u32-bits.ensures ∙ ap below32 c.get_u64.ensures)
-    (c.is_plain-plain.ensures ∙ ap uncompressed c.get_i64.ensures) c.five.ensures
+    c.get_as-width.ensures
+    c.get_as-stride.ensures
+    c.get_as-height.ensures
+    c.get_as-components.ensures
+    (c.to_u32-bits.ensures ∙ ap below32 c.get_as.ensures)
+    (c.is_plain-plain.ensures ∙ ap uncompressed c.get_as-2.ensures) c.five.ensures
 
 pub returns-in_err-a : goal.returns-in_err-a
 unfolding and_then
