@@ -5,7 +5,7 @@ ghost use Rattle.std.specs.Prelude.{◌≡◌, [], cond, List, suc, ◌+◌, ◌
 ghost use Rattle.format.specs.Given.{answer};
 ghost use Rattle.format.specs.Loops.{Built, append, walk, walk_all, experiment};
 ghost use Rattle.format.specs.Summary.{in_three};
-ghost use Rattle.lookup.specs.Table.{entry_in, entries_in, Holds};
+ghost use Rattle.lookup.specs.View.{bytes, row, entries};
 ghost use Rattle.lookup.specs.Walks.{Standing, rest_of};
 ghost use Rattle.experiment.specs.Kept.{Stands, Reached, handed};
 ghost use Rattle.experiment.specs.Kind.{number_of};
@@ -20,9 +20,7 @@ use crate::kind::LoopKind;
 use crate::single::single_experiment_loop;
 use format::refusal::Refusal;
 use format::{Axis, Loop};
-use lookup::Turn;
-use lookup::child::{children, next_child};
-use lookup::level::get;
+use lookup::{Tree, Turn};
 
 // Levels of an experiment may stand this many deep, one in another.
 pub const MAX_EXP_DEPTH: u64 = 64;
@@ -70,23 +68,21 @@ fn nesting_below(kind: LoopKind, nesting: u64) -> u64
 // The loops of the experiment levels that a walk has still before it, after those that are kept.
 #[cycle(load_children_load_experiment_rec)]
 fn load_children(
-    file: &[u8],
-    table: &[u8],
-    used: usize,
+    tree: Tree,
     from: Turn,
     nesting: u64,
     levels: u64,
     before: Kept,
 ) -> Result<Kept, Refusal>
-    requires { Holds file.now table.now used × Standing file.now (entry_in table.now) used from × (nesting + levels ≤ 64) × Reached before }
+    requires { Standing (bytes tree) (row tree) tree.used from × (nesting + levels ≤ 64) × Reached before }
     ensures { (bs : List Built) → Stands before bs → Gives result
-        (walk_all (λ i. walk levels file.now (entries_in table.now used) i nesting)
-        (rest_of file.now (entry_in table.now) used from) bs) }
+        (walk_all (λ i. walk levels (bytes tree.entry) (entries tree.entry) i nesting)
+        (rest_of (bytes tree.entry) (row tree.entry) tree.entry.used from) bs) }
 {
     let mut turn = from;
     let mut kept = before;
-    while let Some((i, rest)) = next_child(file, table, used, turn) {
-        kept = load_experiment_rec(file, table, used, i, nesting, levels, kept)?;
+    while let Some((i, rest)) = tree.next_child(turn) {
+        kept = load_experiment_rec(tree, i, nesting, levels, kept)?;
         turn = rest;
     }
     Ok(kept)
@@ -95,35 +91,33 @@ fn load_children(
 // The loops of the experiment level i, after those that are kept. A level that says no loop stops the walk there, its children too.
 #[cycle(load_children_load_experiment_rec)]
 fn load_experiment_rec(
-    file: &[u8],
-    table: &[u8],
-    used: usize,
+    tree: Tree,
     i: usize,
     nesting: u64,
     levels: u64,
     kept: Kept,
 ) -> Result<Kept, Refusal>
-    requires { Holds file.now table.now used × (i < used) × (nesting + levels ≤ 64) × Reached kept }
-    ensures { (bs : List Built) → Stands kept bs → Gives result (walk levels file.now (entries_in table.now used) i nesting bs) }
+    requires { (i < tree.used) × (nesting + levels ≤ 64) × Reached kept }
+    ensures { (bs : List Built) → Stands kept bs → Gives result (walk levels (bytes tree.entry) (entries tree.entry) i nesting bs) }
 {
     if levels == 0 {
         return Ok(kept);
     }
-    let Some(own) = single_experiment_loop(file, table, used, i)? else {
+    let Some(own) = single_experiment_loop(tree, i)? else {
         return Ok(kept);
     };
-    let next = get(file, table, used, i + 1, b"ppNextLevelEx");
-    let turn = children(file, table, used, next);
+    let next = tree.get(i + 1, b"ppNextLevelEx");
+    let turn = tree.children(next);
     let deeper = nesting_below(own.kind, nesting);
     let more = appended(kept, own.kind, own.count, nesting);
-    load_children(file, table, used, turn, deeper, levels - 1, more)
+    load_children(tree, turn, deeper, levels - 1, more)
 }
 
 // The loops of the experiment level i.
-pub fn load_experiment(file: &[u8], table: &[u8], used: usize, i: usize) -> Result<Loops, Refusal>
-    requires { Holds file.now table.now used × (i < used) }
-    ensures { answer result ≡ handed (experiment file.now (entries_in table.now used) i) }
+pub fn load_experiment(tree: Tree, i: usize) -> Result<Loops, Refusal>
+    requires { i < tree.used }
+    ensures { answer result ≡ handed (experiment (bytes tree.entry) (entries tree.entry) i) }
 {
-    let kept = load_experiment_rec(file, table, used, i, 0, MAX_EXP_DEPTH, none_kept())?;
+    let kept = load_experiment_rec(tree, i, 0, MAX_EXP_DEPTH, none_kept())?;
     kept.judged
 }

@@ -4,7 +4,7 @@ use borrow.Author.Rules.{rules}
 use Rattle.std.specs.Prelude.{Err}
 use Rattle.format.specs.Bytes.{ascii}
 use Rattle.format.specs.Loops.{child_levels}
-use Rattle.lookup.specs.Table.{entries_in}
+use Rattle.lookup.specs.View.{bytes, entries}
 use Rattle.experiment.specs.Single.{said_of}
 use Rattle.experiment.proofs.Walking.{gives_zero, gives_nothing, gives_wrong, gives_loop, on_end, on_stopped, on_more}
 use Rattle.experiment.proofs.+load_children_load_experiment_rec.Goals as goal
@@ -42,5 +42,5 @@ load_experiment_rec-returns t c bs s =
     gives_loop _ _ _ _ _ bs c.if-levels-eq0.false _ _ _ _ _
     (rw (c.in_ok-own.was, c.in-Some.is) at c.single_experiment_loop.ensures)
     c.nesting_below-deeper.ensures.0
-    (ap (child_levels a.file.now (entries_in a.table.now a.used)) (sym c.get-next.ensures.0) ∙ c.children-turn.ensures.rest)
+    (ap (child_levels (bytes a.tree) (entries a.tree)) (sym c.get-next.ensures.0) ∙ c.children-turn.ensures.rest)
     (c.load_children.ensures _ (c.appended-more.ensures bs s))

@@ -1,7 +1,7 @@
 use Prim.Native.Nat.{◌+◌, ◌*◌}
 use lib.ListN.{length}
 use Rattle.format.specs.Loops.{walk}
-use Rattle.lookup.specs.Table.{entry_in, entries_in}
+use Rattle.lookup.specs.View.{bytes, row, entries}
 use Rattle.lookup.specs.Walks.{Standing, rest_of}
 use Rattle.experiment.proofs.Walking.{On}
 use Rattle.experiment.proofs.+load_children_load_experiment_rec.Given as goal
@@ -14,10 +14,10 @@ decreases-load_experiment_rec l = 2 * l.levels
 
 abbrev pub invariant-load_children-loop-i : goal.invariant-load_children-loop-i
 invariant-load_children-loop-i l =
-    Standing l.file (entry_in l.table) l.used l.turn
-    × On (λ i. walk l.levels l.file (entries_in l.table l.used) i l.nesting)
-    (rest_of l.file (entry_in l.table) l.used l.initial.turn) l.initial.kept
-    (rest_of l.file (entry_in l.table) l.used l.turn) l.kept
+    Standing (bytes l.tree) (row l.tree) l.tree.used l.turn
+    × On (λ i. walk l.levels (bytes l.tree) (entries l.tree) i l.nesting)
+    (rest_of (bytes l.tree) (row l.tree) l.tree.used l.initial.turn) l.initial.kept
+    (rest_of (bytes l.tree) (row l.tree) l.tree.used l.turn) l.kept
 
 abbrev pub decreases-load_children-loop-i : goal.decreases-load_children-loop-i
-decreases-load_children-loop-i l = length (rest_of l.file (entry_in l.table) l.used l.turn)
+decreases-load_children-loop-i l = length (rest_of (bytes l.tree) (row l.tree) l.tree.used l.turn)

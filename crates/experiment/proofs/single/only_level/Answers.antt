@@ -7,7 +7,6 @@ use Rattle.experiment.proofs.single.only_level.Goals as goal
 
 pub next_element-requires : goal.next_element-requires
 next_element-requires c = (
-  c.requires.0,
   at_within _ _ _ c.in_ok-i.was c.first_element.ensures.1,
   record { file = []; number = 0; is = sym (is_at _ _ _ c.in_ok-i.was (c.first_element.ensures.0 [])) },
 )

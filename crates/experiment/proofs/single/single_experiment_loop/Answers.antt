@@ -16,7 +16,7 @@ use Rattle.format.specs.declared.Entry.{Entry}
 use Rattle.format.specs.declared.refusal.Refusal.{Refusal}
 use Rattle.number.specs.Readings.{integer}
 use Rattle.lookup.proofs.Search.{is_at}
-use Rattle.lookup.specs.Table.{entries_in}
+use Rattle.lookup.specs.View.{bytes, entries}
 use Rattle.experiment.specs.Kind.{said_by_kind}
 use Rattle.experiment.specs.declared.kind.LoopKind.{LoopKind}
 use Rattle.experiment.proofs.single.single_experiment_loop.Goals as goal
@@ -31,13 +31,13 @@ by_type s es i p n r h k e = rw (← h, ← k) e
 
 of_level : (c : After-kind_of)
     → let a = c.args in
-    said a.file.now (entries_in a.table.now a.used) a.i ≡ said_by_kind a.file.now (entries_in a.table.now a.used) a.i c.in-Some.p c.kind_of.result
+    said (bytes a.tree) (entries a.tree) a.i ≡ said_by_kind (bytes a.tree) (entries a.tree) a.i c.in-Some.p c.kind_of.result
 unfolding ascii
 of_level c =
     let a = c.args in
     by_type _ _ _ _ _ _ (is_at _ _ _ c.in-Some.is (c.as_loop_params.ensures.0 _ ∙ ap (loop_params _ _) c.get-params.ensures.0))
-    (sym (ap integer c.in-Some-get_i64.is) ∙ c.get_i64.ensures)
-    (rw (to_z-of_z w64 c.in-Some-get_i64.n (search rules)) at (c.kind_of.ensures a.file.now (entries_in a.table.now a.used) a.i c.in-Some.p))
+    (sym (ap integer c.in-Some-get_as.is) ∙ c.get_as.ensures)
+    (rw (to_z-of_z w64 c.in-Some-get_as.n (search rules)) at (c.kind_of.ensures (bytes a.tree) (entries a.tree) a.i c.in-Some.p))
 
 pub returns-in_err-kind : goal.returns-in_err-kind
 returns-in_err-kind c =
