@@ -8,7 +8,7 @@ ghost use Rattle.format.specs.Refusals as why;
 ghost use Rattle.format.specs.Trees.{most_depth};
 ghost use Rattle.format.specs.Calibration.{above_zero, pixel_size, z_step, z_float, unstated, stated};
 ghost use Rattle.number.specs.Readings.{real};
-ghost use Rattle.lookup.specs.Table.{entries_in, Holds};
+ghost use Rattle.lookup.specs.View.{bytes, entries};
 ghost use Rattle.calibration.specs.Size.{size_in};
 
 pub mod step;
@@ -17,7 +17,7 @@ use crate::step::step_from;
 use experiment::MAX_EXP_DEPTH;
 use format::Calibration;
 use format::refusal::Refusal;
-use lookup::level::{get_f64, get_level};
+use lookup::Tree;
 use number::{kept_z, narrow, positive, z_class};
 
 // What a calibration's state says: a size is stated, or the tree is packed.
@@ -28,23 +28,22 @@ const PACKED: u64 = 2;
 // ---- the z step
 
 // The z step that an experiment's levels state, the first in tree order.
-pub fn find_z_step(file: &[u8], table: &[u8], used: usize, i: usize) -> Option<f64>
-    requires { Holds file.now table.now used × (i < used) }
-    ensures { real result ≡ z_step most_depth file.now (entries_in table.now used) i }
+pub fn find_z_step(tree: Tree, i: usize) -> Option<f64>
+    requires { i < tree.used }
+    ensures { real result ≡ z_step most_depth (bytes tree.entry) (entries tree.entry) i }
 {
-    step_from(file, table, used, i, MAX_EXP_DEPTH)
+    step_from(tree, i, MAX_EXP_DEPTH)
 }
 
 // ---- the pixel size
 
 // The dCalibration of a tree's SLxCalibration.
 #[tactic(auto, unfolding(format::specs::Values::bind, format::specs::Bytes::ascii))]
-fn size_in(file: &[u8], table: &[u8], used: usize) -> Option<f64>
-    requires { Holds file.now table.now used }
-    ensures { real result ≡ size_in file.now (entries_in table.now used) }
+fn size_in(tree: Tree) -> Option<f64>
+    ensures { real result ≡ size_in (bytes tree.entry) (entries tree.entry) }
 {
-    let i = get_level(file, table, used, 0, b"SLxCalibration")?;
-    get_f64(file, table, used, i + 1, b"dCalibration")
+    let i = tree.get_level(0, b"SLxCalibration")?;
+    tree.get_as::<f64>(i + 1, b"dCalibration")
 }
 
 // A size counts where it is above 0.
@@ -57,11 +56,10 @@ fn above_zero(size: Option<f64>) -> Option<f64>
 
 // The pixel size that a tree states.
 #[tactic(auto, unfolding(format::specs::Calibration::pixel_size, format::specs::Bytes::ascii))]
-pub fn parse_calibration_um(file: &[u8], table: &[u8], used: usize) -> Option<f64>
-    requires { Holds file.now table.now used }
-    ensures { real result ≡ pixel_size file.now (entries_in table.now used) }
+pub fn parse_calibration_um(tree: Tree) -> Option<f64>
+    ensures { real result ≡ pixel_size (bytes tree.entry) (entries tree.entry) }
 {
-    above_zero(size_in(file, table, used))
+    above_zero(size_in(tree))
 }
 
 // ---- what is stated
@@ -96,11 +94,10 @@ fn sized(size: f64, z: Option<f64>) -> Calibration
 
 // What a calibration tree states, where the step is z.
 #[tactic(auto, unfolding(format::specs::Calibration::stated))]
-pub fn load_calibration(file: &[u8], table: &[u8], used: usize, z: Option<f64>) -> Calibration
-    requires { Holds file.now table.now used }
-    ensures { result ≡ stated (pixel_size file.now (entries_in table.now used)) (z_float (real z)) }
+pub fn load_calibration(tree: Tree, z: Option<f64>) -> Calibration
+    ensures { result ≡ stated (pixel_size (bytes tree.entry) (entries tree.entry)) (z_float (real z)) }
 {
-    match parse_calibration_um(file, table, used) {
+    match parse_calibration_um(tree) {
         None => unstated(0),
         Some(size) => sized(size, z),
     }

@@ -5,4 +5,4 @@ use Rattle.calibration.proofs.size_in.Goals as goal
 
 pub returns : goal.returns
 unfolding bind ascii
-returns c = rw (← c.get_level.ensures.0, c.in_ok-i.was) c.get_f64.ensures
+returns c = rw (← c.get_level.ensures.0, c.in_ok-i.was) c.get_as.ensures
