@@ -3,15 +3,11 @@ use Prim.Native.Nat.{ℕ}
 use mathlib.Core.Path.{◌≡◌, refl}
 use mathlib.Core.Option.{Option, none, some, or_else}
 use mathlib.Core.List.{List, [], map}
-use Rattle.std.specs.Prelude as std
-use Rattle.std.specs.Prelude.{MatchOption}
 use Rattle.format.specs.Bytes.{ascii}
-use Rattle.format.specs.Given.{maybe}
 use Rattle.format.specs.Values.{level, field, field_in, as_level, bind}
 use Rattle.format.specs.Loops.{child_levels}
 use Rattle.format.specs.Channels.{plane_record, plane_levels, planes_level, plane_records}
 use Rattle.format.specs.declared.Entry.{Entry}
-use Rattle.lookup.specs.Table.{Within}
 
 module _ (s : List ℕ) (es : List Entry) where
   pub planes_at : (i : ℕ) → some i ≡ planes_level s es → plane_records s es ≡ map (plane_record s es) (child_levels s es (some (level i)))
@@ -34,18 +30,11 @@ module _ (s : List ℕ) (es : List Entry) where
     no_pictures f = rw (← e, ← f) refl
 
     module _ (j : ℕ) (f : some j ≡ as_level (field_in s es i (ascii "sPicturePlanes"))) where
-      new_planes : (k : ℕ) → some k ≡ as_level (field_in s es j (ascii "sPlaneNew")) → some k ≡ planes_level s es
+      pub new_planes : (k : ℕ) → some k ≡ as_level (field_in s es j (ascii "sPlaneNew")) → some k ≡ planes_level s es
       unfolding planes_level bind or_else ascii
       new_planes k g = rw (← e, ← f, ← g) refl
 
-      old_planes : {o : Option ℕ} → none ≡ as_level (field_in s es j (ascii "sPlaneNew")) → o ≡ as_level (field_in s es j (ascii "sPlane"))
+      pub old_planes : {o : Option ℕ} → none ≡ as_level (field_in s es j (ascii "sPlaneNew")) → o ≡ as_level (field_in s es j (ascii "sPlane"))
           → o ≡ planes_level s es
       unfolding planes_level bind or_else ascii
       old_planes g h = rw (← e, ← f, ← g) h
-
-      -- the one level, or the other where that is none
-      pub either_planes : {P : Type 0} (n : ℕ) (o r : std.Option ℕ) → (maybe o ≡ as_level (field_in s es j (ascii "sPlaneNew"))) × Within n o
-          → MatchOption o P (λ k. r ≡ std.Some k) → (P → (maybe r ≡ as_level (field_in s es j (ascii "sPlane"))) × Within n r)
-          → (maybe r ≡ planes_level s es) × Within n r
-      either_planes n std.None r (g, w) m h = let (q, v) = h m in (old_planes g q, v)
-      either_planes n (std.Some k) r (g, w) m h = rw m (new_planes k g, w)

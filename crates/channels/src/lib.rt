@@ -23,6 +23,7 @@ use chunk::map::{Lookup, look_up};
 use cursor::clear;
 use format::refusal::Refusal;
 use format::{Channel, Summary};
+use lookup::Tree;
 use named_tree::read_named;
 use planes::{Planes, next_component, no_planes, planes_in};
 use record::no_channel;
@@ -38,7 +39,7 @@ fn read_planes(file: &[u8], at: Lookup, table: &mut [u8], most: u64) -> Result<P
         (tree_under file.now (room_in (length table.old)) (ascii "ImageMetadataSeqLV|0!") (lookup_of at))) result }
 {
     match read_named(file, b"ImageMetadataSeqLV|0!", at, table) {
-        Ok(used) => Ok(planes_in(file, table, used, most)),
+        Ok(used) => Ok(planes_in(Tree { file, table, used }, most)),
         Err(e) if e == Refusal::Table => Err(e),
         Err(_) => Ok(no_planes()),
     }

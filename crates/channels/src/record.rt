@@ -5,12 +5,11 @@ ghost use Rattle.format.specs.Numbers.{below32};
 ghost use Rattle.format.specs.Channels.{empty_channel, with_text, with_color, channel_of, plane_record};
 ghost use Rattle.format.specs.declared.Entry.{Entry};
 ghost use Rattle.number.specs.Readings.{natural};
-ghost use Rattle.lookup.specs.Table.{entries_in, Holds};
 ghost use Rattle.lookup.specs.Values.{field_meaning};
+ghost use Rattle.lookup.specs.View.{bytes, entries};
 
 use format::Channel;
-use lookup::ClxValue;
-use lookup::level::{get, get_u64};
+use lookup::{ClxValue, Tree};
 
 // A record with a name and no colour. State: 1 where there is a name.
 #[tactic(auto, unfolding(format::specs::Channels::with_color))]
@@ -65,19 +64,19 @@ fn colored(c: Channel, color: Option<u64>) -> Channel
 }
 
 // The record of the plane whose level is entry i.
-pub fn channel_of(file: &[u8], table: &[u8], used: usize, i: usize) -> Channel
-    requires { Holds file.now table.now used × (i < used) }
-    ensures { result ≡ channel_of file.now (entries_in table.now used) i }
+pub fn channel_of(tree: Tree, i: usize) -> Channel
+    requires { i < tree.used }
+    ensures { result ≡ channel_of (bytes tree.entry) (entries tree.entry) i }
 {
-    let c = described(get(file, table, used, i + 1, b"sDescription"));
-    colored(c, get_u64(file, table, used, i + 1, b"uiColor"))
+    let c = described(tree.get(i + 1, b"sDescription"));
+    colored(c, tree.get_as::<u64>(i + 1, b"uiColor"))
 }
 
 // How many components the plane whose level is entry i covers: 1 where its uiCompCount is 0 or absent.
-pub fn covers_of(file: &[u8], table: &[u8], used: usize, i: usize) -> u64
-    requires { Holds file.now table.now used × (i < used) }
-    ensures { result ≡ (plane_record file.now (entries_in table.now used) i).covers }
+pub fn covers_of(tree: Tree, i: usize) -> u64
+    requires { i < tree.used }
+    ensures { result ≡ (plane_record (bytes tree.entry) (entries tree.entry) i).covers }
 {
-    let count = get_u64(file, table, used, i + 1, b"uiCompCount");
+    let count = tree.get_as::<u64>(i + 1, b"uiCompCount");
     count.unwrap_or(0).max(1)
 }

@@ -1,5 +1,5 @@
 -- `channels::fill`: record by record.
-use Rattle.std.proofs.Common.{length, ap, arith, refl, ◌∙◌}
+use Rattle.std.proofs.Common.{length, arith, refl, ◌∙◌}
 use Rattle.format.specs.Channels.{fitted}
 use Rattle.format.proofs.Calls.ChannelRecords.{fitted_length}
 use Rattle.channels.specs.Ahead.{ahead}

@@ -1,14 +1,11 @@
 -- `channels::prepare`: one law for each way out.
-use Prim.Native.Nat.{ℕ}
-use mathlib.Core.Path.{◌≡◌, sym, ap, ◌∙◌}
+use mathlib.Core.Path.{◌≡◌, sym, ◌∙◌}
 use mathlib.Core.Bool.{false}
-use mathlib.Core.List.{List}
 use Rattle.format.specs.Bytes.{ascii}
 use Rattle.format.specs.Summary.{bad_summary}
 use Rattle.format.proofs.Files.SummaryTest.{sound_read}
-use Rattle.chunk.specs.Answers.{find_in}
 use Rattle.named_tree.proofs.Answers.{handed}
-use Rattle.channels.proofs.Readying.{planes_name, ready_refused, ready_same, bad_summary_is, no_map, short_row, read_on}
+use Rattle.channels.proofs.Readying.{ready_refused, ready_same, bad_summary_is, no_map, short_row, read_on}
 use Rattle.channels.proofs.prepare.Goals as goal
 use Rattle.channels.proofs.prepare.Goals.{Else-bad_summary, After-data_of-map}
 

@@ -1,9 +1,6 @@
 -- `channels::read_planes`: of the refusals of a tree only 18 stops the records.
-use Prim.Native.Nat.{ℕ}
-use mathlib.Core.Path.{◌≡◌}
 use borrow.Author.Rules.{rules}
 use Rattle.format.specs.Bytes.{ascii}
-use Rattle.format.specs.Given.{number}
 use Rattle.channels.proofs.Readying.{ready_given, ready_refused, ready_empty, by_given, by_table, by_fault}
 use Rattle.channels.proofs.read_planes.Goals as goal
 

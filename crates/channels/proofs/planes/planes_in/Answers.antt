@@ -3,8 +3,8 @@ use mathlib.Core.Path.{sym, ap, ◌∙◌}
 use mathlib.Core.List.{List, map}
 use lib.ListN.{get_or}
 use Rattle.format.specs.Channels.{empty_channel, PlaneRecord, plane_record, covered}
-use Rattle.lookup.specs.Table.{entries_in}
 use Rattle.lookup.specs.Values.{meaning, field_meaning}
+use Rattle.lookup.specs.View.{bytes, entries}
 use Rattle.channels.proofs.Levels.{planes_at, planes_none}
 use Rattle.channels.proofs.Rows.{none_left}
 use Rattle.channels.proofs.planes.planes_in.Goals as goal
@@ -16,7 +16,8 @@ pub returns : goal.returns
 unfolding field_meaning meaning
 returns c =
     let a = c.args in
-    let es = entries_in a.table.now a.used in
-    let l = planes_at a.file.now es _ c.in-Some.ensures.0 ∙ ap (map (plane_record a.file.now es)) c.children-turn.ensures.rest in
+    let s = bytes a.tree in
+    let es = entries a.tree in
+    let l = planes_at s es _ c.in-Some.ensures.0 ∙ ap (map (plane_record s es)) c.children-turn.ensures.rest in
     let p = c.planes_from.ensures in
     (p.0, λ k. p.1 k ∙ ap (λ (ps : List PlaneRecord). get_or (covered a.most ps) k empty_channel) (sym l))

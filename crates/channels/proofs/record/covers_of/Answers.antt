@@ -7,4 +7,4 @@ use Rattle.channels.proofs.record.covers_of.Goals as goal
 
 pub returns : goal.returns
 unfolding plane_record ascii
-returns c = rw (c.max.ensures, c.unwrap_or.ensures) (covers_is c.get_u64-count.result ∙ ap covers_of c.get_u64-count.ensures)
+returns c = rw (c.max.ensures, c.unwrap_or.ensures) (covers_is c.get_as-count.result ∙ ap covers_of c.get_as-count.ensures)
