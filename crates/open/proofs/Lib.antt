@@ -1,4 +1,3 @@
-pub mod Saying
 pub mod Running
 pub mod Order
 pub mod Promises

@@ -29,7 +29,7 @@ use Rattle.open.specs.Parts.{run_in, after_run, after_attributes, after_map}
 
 -- ---- steps in a row
 
-then_then : {A B C : Type 0} (x : Answer A) (f : A → Answer B) (g : B → Answer C) → and_then (and_then x f) g ≡ and_then x λ a. and_then (f a) g
+pub then_then : {A B C : Type 0} (x : Answer A) (f : A → Answer B) (g : B → Answer C) → and_then (and_then x f) g ≡ and_then x λ a. and_then (f a) g
 unfolding and_then
 then_then (refused n) f g = refl
 then_then (given a) f g = refl
@@ -112,3 +112,8 @@ module _ (s : List ℕ) (room : ℕ) where
         → y ≡ find_in d (ascii "ImageMetadataLV!") → z ≡ find_in d (ascii "ImageCalibrationLV|0!")
         → opened s room ≡ after_map s room r x y z
     map_looked e f g h = rw (f, g, h, e) map_read
+
+    -- a map that is refused
+    pub map_broken : {n : ℕ} (y z : Answer (Option ℕ)) → after_map s room r (refused n) y z ≡ refused n
+    unfolding after_map tree_under and_then
+    map_broken y z = refl

@@ -1,49 +1,44 @@
 -- The parts of an opening, in order, each with all that follows it; and what an answer says of them.
-use Rattle.std.specs.Prelude.{ℕ, ◌<◌, ◌≡◌, List, length, ltb, Float}
+use Rattle.std.specs.Prelude.{ℕ, ◌≡◌, List, ltb, Float}
+use Rattle.std.specs.Prelude as std
 use Rattle.std.proofs.Math.Option.{Option}
 use Rattle.format.specs.Bytes.{ascii, most64}
-use Rattle.format.specs.Answer.{Answer, given, refused, refuse_if, and_then, or_refuse, number_of}
+use Rattle.format.specs.Answer.{Answer, given, refused, refuse_if, and_then, or_refuse}
 use Rattle.format.specs.Refusals as why
 use Rattle.format.specs.Trees.{most_depth}
 use Rattle.format.specs.Values.{field, as_level}
 use Rattle.format.specs.Attributes.{attributes, plane_bytes}
 use Rattle.format.specs.Loops.{experiment}
 use Rattle.format.specs.Calibration.{z_step, z_float, calibration_by}
-use Rattle.format.specs.Summary.{in_three, summary_of}
-use Rattle.format.specs.Calls.Open.{summary_or_zero}
+use Rattle.format.specs.Summary.{summary_of}
 use Rattle.format.specs.declared.Range.{Range}
 use Rattle.format.specs.declared.Entry.{Entry}
 use Rattle.format.specs.declared.Attributes.{Attributes}
-use Rattle.format.specs.declared.Calibration.{Calibration}
 use Rattle.format.specs.declared.Loop.{Loop}
 use Rattle.format.specs.declared.Summary.{Summary}
+use Rattle.format.specs.Given.{number}
+use Rattle.format.specs.declared.refusal.Refusal.{Refusal}
 use Rattle.number.specs.Readings.{real}
+use Rattle.experiment.specs.Kept.{placed}
 use Rattle.named_tree.specs.Named.{tree_under}
-use Rattle.open.specs.declared.Opened.{Opened}
 use Rattle.open.specs.declared.Recorded.{Recorded}
-use Rattle.open.specs.declared.Calibrated.{Calibrated}
-use Rattle.open.specs.declared.Calibrated.TheVariants.{Is, Refused}
 
 -- ---- the answers
-
--- r is the number and the summary of an answer
-pub record Says (r : Opened) (a : Answer Summary) : Type 0 where
-  pub number : r.number ≡ number_of a
-  pub summary : r.summary ≡ summary_or_zero a
 
 -- what an experiment gives: its loops and its z step
 pub record Run : Type 0 where
   pub loops : List Loop
   pub step : Option Float
 
--- r is the loops and the z step of an answer, or its number
-pub data Tells (r : Recorded) : Answer Run → Type 0 where
-  accepted : {x : Run} → r.number ≡ 0 → r.loops ≡ in_three x.loops → r.depth ≡ length x.loops → real r.z ≡ x.step → Tells r (given x)
-  turned : {n : ℕ} → r.number ≡ n → 0 < n → Tells r (refused n)
+-- e is the loops and the z step of an experiment
+pub record Records (e : Recorded) (x : Run) : Type 0 where
+  pub loops : e.loops ≡ placed x.loops
+  pub step : real e.z ≡ x.step
 
-abbrev pub calibration_of : Calibrated → Answer Calibration
-calibration_of (Is c) = given c
-calibration_of (Refused n) = refused n
+-- the loops and the z step of an answer, or its refusal
+pub data Tells : std.Result Recorded Refusal → Answer Run → Type 0 where
+  accepted : {e : Recorded} {x : Run} → Records e x → Tells (std.Ok e) (given x)
+  turned : {e : Refusal} {n : ℕ} → number e ≡ n → Tells (std.Err e) (refused n)
 
 -- ---- the parts
 

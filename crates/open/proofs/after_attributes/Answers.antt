@@ -1,22 +1,16 @@
--- `after_attributes`: the tree's refusal, or the experiment in it and what follows.
-use mathlib.Core.Path.{refl}
-use Rattle.format.proofs.Ground.Answers.{go_on, stops}
-use Rattle.open.specs.Parts.{after_attributes}
-use Rattle.open.proofs.Saying.{says_as}
+-- `after_attributes`: the experiment's refusal, or what follows it.
+use mathlib.Core.Path.{◌∙◌}
 use Rattle.format.specs.Bytes.{ascii}
+use Rattle.named_tree.proofs.Answers.{handed}
+use Rattle.open.specs.Parts.{after_attributes}
+use Rattle.open.proofs.Order.{then_then}
+use Rattle.open.proofs.Running.{told_refused, told}
 use Rattle.open.proofs.after_attributes.Goals as goal
 
-pub recorded_in-e-requires : goal.recorded_in-e-requires
-recorded_in-e-requires c = (rw c.in-Entries.is at c.read_named.ensures).holds
-
-pub returns-in-Refused : goal.returns-in-Refused
+pub returns-in_err-e : goal.returns-in_err-e
 unfolding after_attributes ascii
-returns-in-Refused c =
-    says_as (stops _ _ (rw c.in-Refused.is at c.read_named.ensures.answer))
-    c.refused.ensures
+returns-in_err-e c = rw (handed c.from_residual.ensures.1) (told_refused _ _ _ c.in_err-e.ensures ∙ then_then _ _ _)
 
-pub returns-in-Entries : goal.returns-in-Entries
+pub returns : goal.returns
 unfolding after_attributes ascii
-returns-in-Entries c =
-    let h = rw c.in-Entries.is at c.read_named.ensures in
-    says_as (go_on _ _ _ h.answer refl) (rw c.read_named.auto.table at (c.after_run.ensures _ c.recorded_in-e.ensures))
+returns c = told _ _ _ c.in_ok-e.ensures (rw c.read_experiment.auto.table at c.after_run.ensures) ∙ then_then _ _ _

@@ -1,22 +1,21 @@
--- `after_run`: one law for each way out.
-use mathlib.Core.Path.{sym, ◌∙◌}
-use Rattle.open.proofs.Running.{run_refused, plane_refused, calibration_refused, calibrated}
+-- `after_run`: the plane product's refusal, the calibration's, or the summary.
+use mathlib.Core.Path.{refl, sym, ◌∙◌}
+use Rattle.format.specs.Answer.{and_then, refuse_if}
+use Rattle.format.specs.Bytes.{ascii}
+use Rattle.named_tree.proofs.Answers.{handed}
+use Rattle.open.specs.Parts.{after_run}
 use Rattle.open.proofs.after_run.Goals as goal
 
-pub returns-then-e-ne0 : goal.returns-then-e-ne0
-returns-then-e-ne0 c = λ x t. run_refused _ _ _ _ _ _ _ x t c.if-e-ne0.true c.refused.ensures
-
 pub returns-then-bad_plane : goal.returns-then-bad_plane
-returns-then-bad_plane c =
-    λ x t. plane_refused _ _ _ _ _ _ _ x t c.if-e-ne0.false
-    (sym c.bad_plane.ensures ∙ c.if-bad_plane.true) c.refused-then-bad_plane.ensures
+unfolding after_run refuse_if
+returns-then-bad_plane c = λ x h. rw (sym c.bad_plane.ensures ∙ c.if-bad_plane.true) refl
 
-pub returns-in-Refused : goal.returns-in-Refused
-returns-in-Refused c =
-    λ x t. calibration_refused _ _ _ _ _ _ _ x t c.if-e-ne0.false (sym c.bad_plane.ensures ∙ c.if-bad_plane.false) _
-    (rw c.in-Refused.is at c.read_calibration.ensures) c.refused-in-Refused.ensures
+pub returns-in_err-c : goal.returns-in_err-c
+unfolding after_run and_then refuse_if ascii
+returns-in_err-c c =
+    λ x h. rw (handed c.from_residual.ensures.1, sym c.bad_plane.ensures ∙ c.if-bad_plane.false, ← h.step, ← c.in_err-c.ensures) refl
 
-pub returns-in-Is : goal.returns-in-Is
-returns-in-Is c =
-    λ x t. calibrated _ _ _ _ _ _ _ x t c.if-e-ne0.false (sym c.bad_plane.ensures ∙ c.if-bad_plane.false) _
-    (rw c.in-Is.is at c.read_calibration.ensures) c.accepted.ensures
+pub returns : goal.returns
+unfolding after_run and_then refuse_if ascii
+returns c =
+    λ x h. rw (sym c.bad_plane.ensures ∙ c.if-bad_plane.false, ← h.step, ← c.in_ok-c.ensures, c.accepted.ensures _ h.loops) refl

@@ -1,28 +1,27 @@
 -- `recorded_in`: of the level, or 11 where there is none.
-use mathlib.Core.Path.{sym, ap, ◌∙◌}
+use mathlib.Core.Path.{◌≡◌, sym, ap, ◌∙◌}
+use borrow.Author.Rules.{rules}
+use Rattle.std.specs.Prelude.{Some}
 use Rattle.format.specs.Bytes.{ascii}
 use Rattle.lookup.specs.Table.{found}
-use Rattle.open.proofs.Running.{no_run, run}
+use Rattle.named_tree.proofs.Answers.{handed, lacking}
+use Rattle.open.proofs.Running.{no_run, run_refused, run}
 use Rattle.open.proofs.recorded_in.Goals as goal
 
-pub load_experiment-e-requires : goal.load_experiment-e-requires
-load_experiment-e-requires c = (
-  c.requires,
-  rw c.in-At.is at c.get_level.ensures.1,
-)
+pub returns-in_err-i : goal.returns-in_err-i
+unfolding ascii
+returns-in_err-i c =
+    let (none, missing) = lacking _ c.in_err-i.ensures.value in
+    rw (handed c.from_residual.ensures.1, missing) (no_run _ _ (sym c.get_level.ensures.0 ∙ ap found none))
 
-pub find_z_step-z-requires : goal.find_z_step-z-requires
-find_z_step-z-requires c = (
-  c.requires,
-  rw c.in-At.is at c.get_level.ensures.1,
-)
+pub returns-in_err-loops : goal.returns-in_err-loops
+unfolding ascii
+returns-in_err-loops c =
+    let h : c.get_level.result ≡ Some c.in_ok-i.i = search rules in
+    rw (handed c.from_residual-in_err-loops.ensures.1) (run_refused _ _ _ (sym c.get_level.ensures.0 ∙ ap found h) _ c.in_err-loops.ensures)
 
-pub returns-in-Nothing : goal.returns-in-Nothing
-unfolding found ascii
-returns-in-Nothing c = no_run _ _ _ (sym c.get_level.ensures.0 ∙ ap found c.in-Nothing.is) c.unrecorded.ensures
-
-pub returns-in-At : goal.returns-in-At
-unfolding found ascii
-returns-in-At c =
-    run _ _ _ _ (sym c.get_level.ensures.0 ∙ ap found c.in-At.is)
-    c.load_experiment-e.ensures.tells c.find_z_step-z.ensures
+pub returns : goal.returns
+unfolding ascii
+returns c =
+    let h : c.get_level.result ≡ Some c.in_ok-i.i = search rules in
+    run _ _ _ (sym c.get_level.ensures.0 ∙ ap found h) _ _ c.in_ok-loops.ensures c.find_z_step-z.ensures
