@@ -10,21 +10,21 @@ ghost use Rattle.format.specs.Calls.Picometres.{picometres_in, picometres_of, pi
 ghost use Rattle.format.specs.Refused.Order.{FirstAt};
 ghost use Rattle.format.specs.Refused.Picometres.{PicometresRefusal, picometres_order, SizeIs};
 ghost use Rattle.format.specs.Sentences.{Refuses, AcceptedUnless, AtSome, TreeNamed};
-ghost use Rattle.lookup.specs.Table.{entries_in, Holds};
+ghost use Rattle.lookup.specs.View.{bytes, entries};
 
 use calibration::parse_calibration_um;
 use cursor::clear;
 use format::Summary;
 use format::refusal::Refusal;
+use lookup::Tree;
 use scale::picometres as scaled;
 use tree_call::tree_named;
 
 // The size that a tree states, in picometres.
-fn size_in(file: &[u8], table: &[u8], used: usize) -> Result<u64, Refusal>
-    requires { Holds file.now table.now used }
-    ensures { answer result ≡ picometres_in file.now (entries_in table.now used) }
+fn size_in(tree: Tree) -> Result<u64, Refusal>
+    ensures { answer result ≡ picometres_in (bytes tree.entry) (entries tree.entry) }
 {
-    let um = parse_calibration_um(file, table, used).ok_or(Refusal::Missing)?;
+    let um = parse_calibration_um(tree).ok_or(Refusal::Missing)?;
     scaled(um).ok_or(Refusal::SizeRange)
 }
 
@@ -33,7 +33,7 @@ fn read_size(file: &[u8], u: Summary, table: &mut [u8]) -> Result<u64, Refusal>
     ensures { answer result ≡ picometres_of file.now u (room_in (length table.old)) }
 {
     let used = tree_named(file, u, b"ImageCalibrationLV|0!", table)?;
-    size_in(file, table, used)
+    size_in(Tree { file, table, used })
 }
 
 // The pixel size of a file in whole picometres, or the first refusal. It leaves zeros in the table.

@@ -5,9 +5,6 @@ use Rattle.format.specs.Calls.Picometres.{picometres_of}
 use Rattle.named_tree.proofs.Answers.{handed}
 use Rattle.picometres.proofs.read_size.Goals as goal
 
-pub size_in-requires : goal.size_in-requires
-size_in-requires c = c.in_ok-used.ensures.holds
-
 pub returns-in_err-used : goal.returns-in_err-used
 unfolding picometres_of and_then ascii
 returns-in_err-used c = rw (handed c.from_residual.ensures.1, c.in_err-used.ensures.answer)
