@@ -11,6 +11,7 @@ use lib.Seq.{drop-cons}
 use lib.ListN.{length, take, drop, get_or, drop_of_length-le}
 use denote.Enum.Bare.{sameb}
 use Rattle.std.proofs.lemmas.List.{take_rest}
+use Rattle.std.proofs.lemmas.Bool.Decides.{nat_tests}
 use Rattle.std.specs.List.{list_any}
 use Rattle.format.specs.Loops.{most_count, same_axis, has_axis}
 use Rattle.format.specs.Frames.{count_of, index_of, seq_from, frames, index_at}
@@ -24,6 +25,8 @@ use Rattle.format.specs.declared.Loop.{Loop}
 use Rattle.format.proofs.Frames.Places.{Below, one, index, within_below}
 use Rattle.format.proofs.Frames.Names.{frames_most}
 use Rattle.summary.specs.Pacing.{Paced}
+
+-- ---- runs of loops
 
 -- where all have come, none is left
 pub past : (i : ℕ) (ls : List Loop) → length ls ≤ i → drop i ls ≡ []
@@ -39,14 +42,6 @@ below_drop : (f : Axis → ℕ) (i : ℕ) (ls : List Loop) → Below f ls → Be
 below_drop f zero ls b = b
 below_drop f (suc i) [] b = b
 below_drop f (suc i) (l ∷ ls) (one h b) = below_drop f i ls b
-
--- a number below 1,000,000^i, with one loop more
-grows : (n i count index : ℕ) → n < most_count ^ i → i < 3 → count ≤ most_count → index < count
-    → (n * count + index < most_count ^ (i + 1)) × (most_count ^ (i + 1) ≤ most_count ^ 3)
-grows n i count index h hi hc hx =
-    let k : i + 1 ≤ 3 = omega arith in
-    let top : most_count ^ (i + 1) ≤ most_count ^ 3 = pow-le-pow_right (omega arith) k in
-    (rw (add-one, pow-suc) (omega (arith, mul-le-mul h hc, suc-mul n count)), top)
 
 -- the derived equality of axes is that of their numbers
 axes_same : (a b : Axis) {r : Bool} → r ≡ sameb the_type a b → same_axis a b ≡ r
@@ -66,55 +61,65 @@ unfolding has_axis
 has_any a [] = refl
 has_any a (l ∷ ls) = rw (has_any a ls) refl
 
--- the same of the loops from number k on
-pub has_later : (a : Axis) (ls : List Loop) (k : ℕ) {r : Bool} → r ≡ list_any (λ l. same_axis l.axis a) (take (length ls - k) (drop k ls))
-    → r ≡ has_axis a (drop k ls)
-has_later a ls k e = rw take_rest at e ∙ sym (has_any a (drop k ls))
-
 -- the loops from number i on
-pub at : (ls : List Loop) (i : ℕ) → i < length ls → drop i ls ≡ get_or ls i no_loop ∷ drop (i + 1) ls
+at : (ls : List Loop) (i : ℕ) → i < length ls → drop i ls ≡ get_or ls i no_loop ∷ drop (i + 1) ls
 at ls i h = rw add-one (drop-cons ls i no_loop h)
 
 -- xs are the loop l and the others, ls
 module _ {xs ls : List Loop} {l : Loop} (e : xs ≡ l ∷ ls) where
-  pub counted_first : Counted xs → (0 < l.count) × (l.count ≤ most_count) × Counted ls
+  counted_first : Counted xs → (0 < l.count) × (l.count ≤ most_count) × Counted ls
   counted_first c = go (rw e at c)
     where
       go : Counted (l ∷ ls) → (0 < l.count) × (l.count ≤ most_count) × Counted ls
       go (cons h k c) = (h, k, c)
 
-  pub below_first : (f : Axis → ℕ) → Below f xs → f l.axis < l.count
+  below_first : (f : Axis → ℕ) → Below f xs → f l.axis < l.count
   below_first f b = go (rw e at b)
     where
       go : Below f (l ∷ ls) → f l.axis < l.count
       go (one h b) = h
 
-  pub first_bad : bad_loops xs ≡ (eqb l.count 0 || ltb most_count l.count || has_axis l.axis ls || bad_loops ls)
-  unfolding bad_loops
-  first_bad = rw e refl
-
-  pub seq_on : (n scene t z : ℕ) → seq_from n xs scene t z ≡ seq_from (n * l.count + index_of l.axis scene t z) ls scene t z
+  seq_on : (n scene t z : ℕ) → seq_from n xs scene t z ≡ seq_from (n * l.count + index_of l.axis scene t z) ls scene t z
   unfolding seq_from
   seq_on n scene t z = rw e refl
 
-  pub frames_on : frames xs ≡ l.count * frames ls
+  frames_on : frames xs ≡ l.count * frames ls
   unfolding frames
   frames_on = rw e refl
 
+-- ---- loops that are bad
+
+-- the loop at i and those behind it, as the code looks at them
+pub bad_at : (ls : List Loop) (i : ℕ) → i < length ls
+    → bad_loops (drop i ls) ≡ (eqb (get_or ls i no_loop).count 0 || ltb most_count (get_or ls i no_loop).count
+    || list_any (λ l. same_axis l.axis (get_or ls i no_loop).axis) (take (length ls - (i + 1)) (drop (i + 1) ls)) || bad_loops (drop (i + 1) ls))
+unfolding bad_loops
+bad_at ls i h = rw (at ls i h, take_rest, ← has_any (get_or ls i no_loop).axis (drop (i + 1) ls)) refl
+
+pub ruleset bad = (past, bad_at, nat_tests)
+
+-- ---- how many frames
+
 -- counted loops make some frames
-pub frames_some : (ls : List Loop) → Counted ls → 0 < frames ls
+frames_some : (ls : List Loop) → Counted ls → 0 < frames ls
 unfolding frames
 frames_some [] c = omega arith
 frames_some (l ∷ ls) (cons h k c) = mul-pos h (frames_some ls c)
 
 -- n frames so far, with those of the loop at i
-pub frames_turn : (ls : List Loop) (i : ℕ) → i < length ls → Counted ls → length ls ≤ 3 → (n : ℕ) → n * frames (drop i ls) ≡ frames ls
-    → let m = n * (get_or ls i no_loop).count in (m * frames (drop (i + 1) ls) ≡ frames ls) × (m ≤ most_count ^ 3)
-frames_turn ls i h c k n e =
-    let l = get_or ls i no_loop in
-    let rest = frames (drop (i + 1) ls) in
-    let p : n * l.count * rest ≡ frames ls = mul_assoc n l.count rest ∙ (ap (λ (x : ℕ). n * x) (sym (frames_on (at ls i h))) ∙ e) in
-    (p, omega (arith, le-mul_of_pos_right (n * l.count) (frames_some (drop (i + 1) ls) (counted_drop (i + 1) ls c)), frames_most ls c k))
+module _ (ls : List Loop) (i : ℕ) (h : i < length ls) (n : ℕ) (e : n * frames (drop i ls) ≡ frames ls) where
+  pub frames_turn : n * (get_or ls i no_loop).count * frames (drop (i + 1) ls) ≡ frames ls
+  frames_turn =
+      mul_assoc n (get_or ls i no_loop).count (frames (drop (i + 1) ls)) ∙ (ap (λ (x : ℕ). n * x) (sym (frames_on (at ls i h))) ∙ e)
+
+  pub frames_fit : Counted ls → length ls ≤ 3 → n * (get_or ls i no_loop).count < 2 ^ 64
+  frames_fit c k =
+      let some = frames_some (drop (i + 1) ls) (counted_drop (i + 1) ls c) in
+      omega (arith, frames_turn, le-mul_of_pos_right (n * (get_or ls i no_loop).count) some, frames_most ls c k)
+
+pub ruleset product = (past, frames_turn, frames_fit)
+
+-- ---- one axis
 
 -- the pace of an axis: no loop has it, or that at i has it
 pub paced_none : (a : Axis) (ls : List Loop) → ((n : ℕ) → 0 ≡ index_at a n ls) → Paced (record { stay = 1; count = 1 }) a ls
@@ -147,23 +152,42 @@ module _ (a : Axis) (ls : List Loop) (i : ℕ) (h : i < length ls) where
   unfolding index_at
   index_on q n = let s = axes_same (get_or ls i no_loop).axis a q in rw (at ls i h, s) refl
 
--- n, the number so far, with the loop at i
-abbrev pub next : List Loop → ℕ → ℕ → ℕ → ℕ → ℕ → ℕ
-next ls i scene t z n = let l = get_or ls i no_loop in n * l.count + index_of l.axis scene t z
+pub ruleset counting = (past, count_at, count_on)
 
--- it is below a bound that fits in 64 bits, and comes to the same with the loops that are left
-pub record Turn (ls : List Loop) (i scene t z n : ℕ) : Type 0 where
-  pub below : next ls i scene t z n < most_count ^ (i + 1)
-  pub bound : most_count ^ (i + 1) ≤ most_count ^ 3
-  pub same : seq_from (next ls i scene t z n) (drop (i + 1) ls) scene t z ≡ seq_from n (drop i ls) scene t z
+pub ruleset pacing = (past, paced_none, paced_at, index_on, counted_drop, take_rest)
 
-pub seq_turn : (ls : List Loop) (i : ℕ) → i < length ls → length ls ≤ 3 → Counted ls → (scene t z : ℕ) → Within ls scene t z → Distinct ls
-    → (n : ℕ) → n < most_count ^ i → Turn ls i scene t z n
-seq_turn ls i h three c scene t z within distinct n q =
-    let f = index scene t z in
-    let e = at ls i h in
-    let l = get_or ls i no_loop in
-    let counted = counted_first e (counted_drop i ls c) in
-    let below = below_first e f (below_drop f i ls (within_below ls scene t z distinct within)) in
-    let g = grows n i l.count (f l.axis) q (omega arith) counted.1 below in
-    record { below = g.0; bound = g.1; same = sym (seq_on e n scene t z) }
+-- ---- the number of a frame
+
+-- a number below 1,000,000^i, with one loop more
+grows : (n i count index : ℕ) → n < most_count ^ i → count ≤ most_count → index < count → n * count + index < most_count ^ (i + 1)
+grows n i count index h hc hx = rw (add-one, pow-suc) (omega (arith, mul-le-mul h hc, suc-mul n count))
+
+-- n, the number so far, with the loop at i: it comes to the same with the loops that are left, is below a bound, and fits in 64 bits
+module _ (ls : List Loop) (i : ℕ) (h : i < length ls) (n : ℕ) where
+  pub seq_same : (scene t z : ℕ) → seq_from (n * (get_or ls i no_loop).count + index_of (get_or ls i no_loop).axis scene t z) (drop (i + 1) ls) scene t z
+      ≡ seq_from n (drop i ls) scene t z
+  seq_same scene t z = sym (seq_on (at ls i h) n scene t z)
+
+  module _ (xs : List Loop) (e : ls ≡ xs) (q : n < most_count ^ i) where
+    pub seq_below : (scene t z : ℕ) → Counted xs × Distinct xs × Within xs scene t z
+        → n * (get_or ls i no_loop).count + index_of (get_or ls i no_loop).axis scene t z < most_count ^ (i + 1)
+    seq_below scene t z p =
+        let (c, d, w) = rw (← e) at p in
+        let below = below_first (at ls i h) (index scene t z) (below_drop (index scene t z) i ls (within_below ls scene t z d w)) in
+        grows n i (get_or ls i no_loop).count (index scene t z (get_or ls i no_loop).axis) q (counted_first (at ls i h) (counted_drop i ls c)).1 below
+
+    module _ (three : length ls ≤ 3) where
+      pub seq_sum : (scene t z : ℕ) → Counted xs × Distinct xs × Within xs scene t z
+          → n * (get_or ls i no_loop).count + index_of (get_or ls i no_loop).axis scene t z < 2 ^ 64
+      seq_sum scene t z p =
+          let top : most_count ^ (i + 1) ≤ most_count ^ 3 = pow-le-pow_right (omega arith) {i = i + 1} {j = 3} (omega arith) in
+          omega (arith, seq_below scene t z p)
+
+      pub seq_product : Counted xs → n * (get_or ls i no_loop).count < 2 ^ 64
+      seq_product c =
+          let counted = counted_first (at ls i h) (counted_drop i ls (rw (← e) at c)) in
+          let top : most_count ^ i ≤ most_count ^ 2 = pow-le-pow_right (omega arith) {i = i} {j = 2} (omega arith) in
+          let low : n ≤ most_count ^ 2 = omega arith in
+          omega (arith, mul-le-mul low counted.1)
+
+pub ruleset numbering = (past, seq_same, seq_below, seq_sum, seq_product)

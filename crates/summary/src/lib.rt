@@ -32,6 +32,7 @@ pub fn shape_of(u: Summary) -> Attributes
 }
 
 // The loops that are used, outermost first.
+#[tactic(auto, using(std::proofs::lemmas::List::take_min))]
 fn used(loops: &[Loop; 3], depth: u64) -> &[Loop]
     ensures { (result.now ≡ take depth loops.now) × (length result.now ≤ 3) }
 {
@@ -47,6 +48,7 @@ fn has_axis(loops: &[Loop], axis: Axis) -> bool
 }
 
 // A loop with the count 0 or one over 1,000,000, or with the axis of a later one.
+#[tactic(auto, using(crate::proofs::Turns::bad), unfolding(format::specs::Summary::bad_loops))]
 fn bad_loops(loops: &[Loop]) -> bool
     ensures { result ≡ bad_loops loops.now }
 {
@@ -81,6 +83,7 @@ pub fn bad_summary(file: &[u8], u: Summary) -> bool
 }
 
 // How many values an axis has: 1 where no loop runs over it.
+#[tactic(auto, using(crate::proofs::Turns::counting), unfolding(format::specs::Frames::count_of))]
 pub fn count_of(u: Summary, a: Axis) -> u64
     ensures { result ≡ count_of a (loops_of u) }
 {
@@ -115,6 +118,7 @@ fn index_of(a: Axis, scene: u64, t: u64, z: u64) -> u64
 }
 
 // The number of a frame: 0 to begin with, then n × count + index for each loop, from the outside in.
+#[tactic(auto, using(crate::proofs::Turns::numbering), unfolding(format::specs::Frames::seq_index, format::specs::Frames::seq_from))]
 pub fn seq_index(u: Summary, scene: u64, t: u64, z: u64) -> u64
     requires { Counted (loops_of u) × Distinct (loops_of u) × Within (loops_of u) scene t z }
     ensures { result ≡ seq_index (loops_of u) scene t z }
@@ -127,6 +131,7 @@ pub fn seq_index(u: Summary, scene: u64, t: u64, z: u64) -> u64
 }
 
 // How many frames these loops make.
+#[tactic(auto, using(crate::proofs::Turns::product), unfolding(format::specs::Frames::frames))]
 fn frames_of(loops: &[Loop]) -> u64
     requires { Counted loops.now × (length loops.now ≤ 3) }
     ensures { result ≡ framesOf loops.now }
@@ -154,6 +159,7 @@ pub struct Pace {
 }
 
 // The pace of an axis, by which frame n has the index n / stay % count: 1 and 1 where no loop has it.
+#[tactic(auto, using(crate::proofs::Turns::pacing), unfolding(format::specs::Frames::index_at))]
 pub fn pace_of(u: Summary, a: Axis) -> Pace
     requires { Counted (loops_of u) }
     ensures { Paced result a (loops_of u) }
