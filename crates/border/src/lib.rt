@@ -3,6 +3,7 @@
 
 ghost use Rattle.std.specs.Prelude.{◌≡◌, length};
 ghost use Rattle.format.specs.Bytes.{zeros};
+ghost use Rattle.format.specs.Given.{said};
 ghost use Rattle.format.specs.Trees.{room_in};
 ghost use Rattle.format.specs.Summary.{loops_of};
 ghost use Rattle.format.specs.Calls.Border.{border_call};
@@ -14,8 +15,19 @@ ghost use Rattle.format.specs.Refused.Border.{BorderFirst};
 ghost use Rattle.format.specs.Sentences.{Refuses, Different, PlaneCopied, ReadsExactly, FrameNamed};
 ghost use Rattle.format.specs.declared.Summary.{Summary};
 
+use format::refusal::Refusal;
 use open::open;
 use plane::plane;
+
+// The number of a call: 0 where it is accepted.
+pub fn number_of<T: Copy>(r: Result<T, Refusal>) -> u32
+    ensures { result ≡ said r }
+{
+    match r {
+        Ok(_) => 0,
+        Err(e) => e.number(),
+    }
+}
 
 // Opens a file and reads the plane of component c at a point; 0, or the number of the first refusal. It leaves zeros in the table.
 pub fn nd2_read_plane(
@@ -42,10 +54,8 @@ pub fn nd2_read_plane(
     ensures named { (u : Summary) → Joined file.now u → Enough file.now (room_in (length table.old))
         → FrameNamed file.now u scene t c z result }
 {
-    let o = open(file, table);
-    if o.number != 0 {
-        return o.number;
+    match open(file, table) {
+        Ok(u) => number_of(plane(file, u, scene, t, c, z, samples)),
+        Err(refused) => refused.number(),
     }
-    let u = o.summary;
-    plane(file, u, scene, t, c, z, samples)
 }
