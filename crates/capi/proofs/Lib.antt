@@ -1,3 +1,2 @@
 pub mod OnSummary
-pub mod Opening
 pub mod Rows

@@ -18,9 +18,13 @@ use Rattle.format.specs.Refused.Order.{First}
 use Rattle.format.specs.Refused.Channels.{ChannelsRefusal, channels_order}
 use Rattle.format.specs.declared.Channel.{Channel}
 use Rattle.format.specs.declared.Summary.{Summary}
-use Rattle.channels.specs.Ahead.{ahead}
+use Rattle.std.specs.Prelude.{Result}
+use Rattle.std.specs.Result.{result_unwrap_or}
+use Rattle.format.specs.Given.{said}
+use Rattle.format.specs.declared.refusal.Refusal.{Refusal}
+use Rattle.channels.specs.Ahead.{ahead, no_planes}
 use Rattle.channels.specs.Ready.{Ready}
-use Rattle.channels.specs.declared.Prepared.{Prepared}
+use Rattle.channels.specs.declared.planes.Planes.{Planes}
 use Rattle.layout.specs.Layout.{channel_bytes, channel_row_bytes}
 use Rattle.capi.specs.RowBytes.{RowRecorded}
 use Rattle.capi.specs.OnBytes.{channel_row}
@@ -32,14 +36,14 @@ channel_length c = simp (length-append, le_bytes_length)
 -- ---- the call
 
 -- The row that was cleared has the records of the prepared call.
-pub row_call : (file table t : List ℕ) (u : Summary) (n count : ℕ) (p : Prepared) (row b : List ℕ) → count ≡ n / 56
+pub row_call : (file table t : List ℕ) (u : Summary) (n count : ℕ) (p : Result Planes Refusal) (row b : List ℕ) → count ≡ n / 56
     → Ready file t count u.components (records_of file u (room_in (length table)) count) p → b ≡ zeros n
-    → row ≡ over (channel_row_bytes (fitted count (ahead file t p.planes))) b
-    → (p.number ≡ (channel_row file u table n).number) × (row ≡ (channel_row file u table n).buffer)
+    → row ≡ over (channel_row_bytes (fitted count (ahead file t (result_unwrap_or p no_planes)))) b
+    → (said p ≡ (channel_row file u table n).number) × (row ≡ (channel_row file u table n).buffer)
 unfolding channel_row channels_call
 row_call file table t u n count p row b q r z e =
     let l = length-replicate (n / 56) empty_channel in
-    (rw (l, ← q) r.number, rw (l, ← q, r.row) (e ∙ ap (over (channel_row_bytes (fitted count (ahead file t p.planes)))) z))
+    (rw (l, ← q) r.number, rw (l, ← q, r.row) (e ∙ ap (over (channel_row_bytes (fitted count (ahead file t (result_unwrap_or p no_planes))))) z))
 
 -- the refusals of the call, of as many records as fit in n bytes
 module _ (file table : List ℕ) (u : Summary) (n : ℕ) where

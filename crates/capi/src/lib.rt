@@ -28,19 +28,22 @@ ghost use Rattle.capi.specs.RowBytes.{RowRecorded};
 ghost use Rattle.capi.specs.OnBytes.{open_on, plane_on, sheet_on, tree_on, channel_row, channels_on, register_on, picometres_on};
 ghost use Rattle.capi.specs.Said.{Said, WhereSaid, Unsaid, AcceptedOn};
 
-use channels::planes::{Planes, next_component};
+use border::number_of;
+use channels::planes::{Planes, next_component, no_planes};
 use channels::prepare;
 use cursor::clear;
-use format::{Summary, refusal};
+use format::Summary;
+use format::refusal::Refusal;
 use layout::{CHANNEL_BYTES, SUMMARY_BYTES, put_channel, put_summary, summary_from};
 use open::open;
 use picometres::picometres;
 use plane::plane;
 use register::register;
-use sheet::{sheet, sheet_read};
+use sheet::{Sizes, sheet, sheet_read};
 use tree_call::tree;
 
 // Opens a file, and stores its summary: 0, or the number of the first refusal and a summary of zeros. It leaves zeros in the table.
+#[tactic(auto, unfolding(crate::specs::OnBytes::open_on))]
 pub fn nd2_open(file: &[u8], table: &mut [u8], summary: &mut [u8]) -> u32
     ensures number { result ≡ open_on file.now table.old summary.old }
     ensures table { table.new ≡ zeros (length table.old) }
@@ -63,17 +66,19 @@ pub fn nd2_open(file: &[u8], table: &mut [u8], summary: &mut [u8]) -> u32
     clear(summary);
     if summary.len() != SUMMARY_BYTES {
         clear(table);
-        return refusal::SUMMARY;
+        return Refusal::Summary.number();
     }
-    let opened = open(file, table);
-    if opened.number == 0 {
-        let u = opened.summary;
-        put_summary(summary, u);
+    match open(file, table) {
+        Ok(u) => {
+            put_summary(summary, u);
+            0
+        }
+        Err(e) => e.number(),
     }
-    opened.number
 }
 
 // The plane of component c at a point, row by row, into the lent bytes; 0, or the number of the first refusal and no byte changed.
+#[tactic(auto, unfolding(crate::specs::OnBytes::plane_on, crate::specs::OnBytes::on_summary))]
 pub fn nd2_plane(
     file: &[u8],
     summary: &[u8],
@@ -94,15 +99,14 @@ pub fn nd2_plane(
         (λ u. PlaneCopied file.now u scene t c z samples.old samples.new) }
     ensures named { WhereSaid summary.now (λ u. FrameNamed file.now u scene t c z result) }
 {
-    let laid = summary_from(summary);
-    if laid.ok {
-        let u = laid.summary;
-        return plane(file, u, scene, t, c, z, samples);
-    }
-    refusal::SUMMARY
+    let Some(u) = summary_from(summary) else {
+        return Refusal::Summary.number();
+    };
+    number_of(plane(file, u, scene, t, c, z, samples))
 }
 
 // The sheet of the plane of component c at a point, into the lent bytes; 0, or the number of the first refusal and no byte changed.
+#[tactic(auto, unfolding(crate::specs::OnBytes::sheet_on, crate::specs::OnBytes::on_summary))]
 pub fn nd2_sheet(
     file: &[u8],
     summary: &[u8],
@@ -124,12 +128,10 @@ pub fn nd2_sheet(
     ensures plane { result ≡ 0 → Said summary.now (λ u. PlaneOn file.now u scene t c z lent.new) }
     ensures named { WhereSaid summary.now (λ u. FrameNamed file.now u scene t c z result) }
 {
-    let laid = summary_from(summary);
-    if laid.ok {
-        let u = laid.summary;
-        return sheet(file, u, scene, t, c, z, lent);
-    }
-    refusal::SUMMARY
+    let Some(u) = summary_from(summary) else {
+        return Refusal::Summary.number();
+    };
+    number_of(sheet(file, u, scene, t, c, z, lent))
 }
 
 // The samples of a sheet into the lent bytes, and its sizes and bits; 0, or the number of the first refusal, no byte changed and the three numbers 0.
@@ -153,14 +155,20 @@ pub fn nd2_sheet_read(
     ensures untouched { Refuses result → samples.new ≡ samples.old }
     ensures zero { Refuses result → ZeroSizes width.new height.new bits.new }
 {
-    let said = sheet_read(lent, samples);
-    *width = said.width;
-    *height = said.height;
-    *bits = said.bits;
-    said.number
+    let read = sheet_read(lent, samples);
+    let sizes = read.unwrap_or(Sizes {
+        width: 0,
+        height: 0,
+        bits: 0,
+    });
+    *width = sizes.width;
+    *height = sizes.height;
+    *bits = sizes.bits;
+    number_of(read)
 }
 
 // The entries of the tree under a name, zeros behind them; 0, or the number of the first refusal and a table of zeros.
+#[tactic(auto, unfolding(crate::specs::OnBytes::tree_on, crate::specs::OnBytes::on_summary))]
 pub fn nd2_tree(file: &[u8], summary: &[u8], name: &[u8], table: &mut [u8]) -> u32
     ensures number { result ≡ (tree_on file.now summary.now name.now table.old).number }
     ensures buffer { table.new ≡ (tree_on file.now summary.now name.now table.old).buffer }
@@ -174,13 +182,11 @@ pub fn nd2_tree(file: &[u8], summary: &[u8], name: &[u8], table: &mut [u8]) -> u
         (λ u. TreeEntered file.now u name.now (length table.old) table.new) }
     ensures named { WhereSaid summary.now (λ u. TreeNamed file.now u name.now result) }
 {
-    let laid = summary_from(summary);
-    if laid.ok {
-        let u = laid.summary;
-        return tree(file, u, name, table);
-    }
-    clear(table);
-    refusal::SUMMARY
+    let Some(u) = summary_from(summary) else {
+        clear(table);
+        return Refusal::Summary.number();
+    };
+    number_of(tree(file, u, name, table))
 }
 
 // Stores the records of a walk, one after another.
@@ -190,12 +196,9 @@ fn put_records(file: &[u8], table: &[u8], first: Planes, row: &mut [u8], count: 
         ≡ over (channel_row_bytes (fitted count (ahead file.now table.now first))) row.old }
 {
     let mut p = first;
-    let mut k = 0;
-    while k < count {
-        let c = p.channel;
-        put_channel(row, CHANNEL_BYTES * k, c);
+    for k in 0..count {
+        put_channel(row, CHANNEL_BYTES * k, p.channel);
         p = next_component(file, table, p);
-        k += 1;
     }
 }
 
@@ -207,14 +210,14 @@ fn put_row(file: &[u8], u: Summary, table: &mut [u8], row: &mut [u8]) -> u32
 {
     clear(row);
     let count = row.len() / CHANNEL_BYTES;
-    let p = prepare(file, u, table, count);
-    let first = p.planes;
-    put_records(file, table, first, row, count);
+    let planes = prepare(file, u, table, count);
+    put_records(file, table, planes.unwrap_or(no_planes()), row, count);
     clear(table);
-    p.number
+    number_of(planes)
 }
 
 // A record for each component, zeros behind these; 0, or the number of the first refusal and a row of zeros. It leaves zeros in the table.
+#[tactic(auto, unfolding(crate::specs::OnBytes::channels_on, crate::specs::OnBytes::on_summary))]
 pub fn nd2_channels(file: &[u8], summary: &[u8], table: &mut [u8], row: &mut [u8]) -> u32
     ensures number { result ≡ (channels_on file.now summary.now table.old (length row.old)).number }
     ensures row { row.new ≡ (channels_on file.now summary.now table.old (length row.old)).buffer }
@@ -228,17 +231,16 @@ pub fn nd2_channels(file: &[u8], summary: &[u8], table: &mut [u8], row: &mut [u8
     ensures records { result ≡ 0 → Said summary.now
         (λ u. RowRecorded file.now u (length row.old) row.new) }
 {
-    let laid = summary_from(summary);
-    if laid.ok {
-        let u = laid.summary;
-        return put_row(file, u, table, row);
-    }
-    clear(row);
-    clear(table);
-    refusal::SUMMARY
+    let Some(u) = summary_from(summary) else {
+        clear(row);
+        clear(table);
+        return Refusal::Summary.number();
+    };
+    put_row(file, u, table, row)
 }
 
 // The record of every frame, in order, into the lent bytes; 0, or the number of the first refusal and no byte changed.
+#[tactic(auto, unfolding(crate::specs::OnBytes::register_on, crate::specs::OnBytes::on_summary))]
 pub fn nd2_register(file: &[u8], summary: &[u8], buffer: &mut [u8]) -> u32
     ensures number { result ≡ (register_on file.now summary.now buffer.old).number }
     ensures buffer { buffer.new ≡ (register_on file.now summary.now buffer.old).buffer }
@@ -249,15 +251,14 @@ pub fn nd2_register(file: &[u8], summary: &[u8], buffer: &mut [u8]) -> u32
     ensures registered { result ≡ 0 → Said summary.now
         (λ u. Registered file.now u buffer.old buffer.new) }
 {
-    let laid = summary_from(summary);
-    if laid.ok {
-        let u = laid.summary;
-        return register(file, u, buffer);
-    }
-    refusal::SUMMARY
+    let Some(u) = summary_from(summary) else {
+        return Refusal::Summary.number();
+    };
+    number_of(register(file, u, buffer))
 }
 
 // The pixel size of a file in whole picometres; 0, or the number of the first refusal and 0 picometres. It leaves zeros in the table.
+#[tactic(auto, unfolding(crate::specs::OnBytes::picometres_on, crate::specs::OnBytes::on_summary))]
 pub fn nd2_picometres(file: &[u8], summary: &[u8], table: &mut [u8], size: &mut u64) -> u32
     ensures number { result ≡ (picometres_on file.now summary.now table.old).number }
     ensures size { size.new ≡ (picometres_on file.now summary.now table.old).picometres }
@@ -272,14 +273,12 @@ pub fn nd2_picometres(file: &[u8], summary: &[u8], table: &mut [u8], size: &mut 
     ensures rounded { result ≡ 0 → Said summary.now (λ u. SizeIs file.now u size.new) }
     ensures named { WhereSaid summary.now (λ u. TreeNamed file.now u (ascii "ImageCalibrationLV|0!") result) }
 {
-    let laid = summary_from(summary);
-    if laid.ok {
-        let u = laid.summary;
-        let said = picometres(file, u, table);
-        *size = said.picometres;
-        return said.number;
-    }
-    clear(table);
-    *size = 0;
-    refusal::SUMMARY
+    let Some(u) = summary_from(summary) else {
+        clear(table);
+        *size = 0;
+        return Refusal::Summary.number();
+    };
+    let read = picometres(file, u, table);
+    *size = read.unwrap_or(0);
+    number_of(read)
 }
