@@ -3,51 +3,65 @@
 // printed; rust/replay/src/step.rs says how a step is stored.
 #![tactic(auto)]
 
-ghost use Rattle.std.specs.Prelude.{◌+◌, ◌≤◌, length, IfOk};
+ghost use Rattle.std.specs.Prelude.{◌≤◌, length, IfOk};
 
 use border::nd2_read_plane;
 use capi::{nd2_channels, nd2_picometres, nd2_sheet_read};
-use cursor::{le4, le8, put8};
-use format::{Axis, Loop, Range, Summary};
-use layout::put_summary;
+use cursor::{le, put};
+use format::Summary;
+use format::refusal::Refusal;
+use layout::{SUMMARY_BYTES, put_summary, summary_in};
 use open::open;
 use plane::plane;
 use register::register;
 use sheet::sheet;
 use std::fs::File;
 use std::io;
-use std::io::{Read, Write};
+use std::io::{ErrorKind, Read, Write};
 use sum::{fold_bytes, fold_summary};
 use tree_call::tree;
 
 mod sum; // checksums
 
-// The kinds of steps. No step is left: END.
-const END: u64 = 0;
+// The kinds of steps.
+#[derive(Clone, Copy, Debug, PartialEq, Eq)]
+enum Kind {
+    Label,
+    File,
+    Summary,
+    Open,
+    Plane,
+    Tree,
+    Register,
+    Border,
+    Channels,
+    Sheet,
+    ReadSheet,
+    Picometres,
+}
 
-const LABEL: u64 = 1;
+// The kind of a stored number.
+impl TryFrom<u64> for Kind {
+    type Error = io::Error;
 
-const FILE: u64 = 2;
-
-const SUMMARY: u64 = 3;
-
-const OPEN: u64 = 4;
-
-const PLANE: u64 = 5;
-
-const TREE: u64 = 6;
-
-const REGISTER: u64 = 7;
-
-const BORDER: u64 = 8;
-
-const CHANNELS: u64 = 9;
-
-const SHEET: u64 = 10;
-
-const READ_SHEET: u64 = 11;
-
-const PICOMETRES: u64 = 12;
+    fn try_from(n: u64) -> io::Result<Kind> {
+        match n {
+            1 => Ok(Kind::Label),
+            2 => Ok(Kind::File),
+            3 => Ok(Kind::Summary),
+            4 => Ok(Kind::Open),
+            5 => Ok(Kind::Plane),
+            6 => Ok(Kind::Tree),
+            7 => Ok(Kind::Register),
+            8 => Ok(Kind::Border),
+            9 => Ok(Kind::Channels),
+            10 => Ok(Kind::Sheet),
+            11 => Ok(Kind::ReadSheet),
+            12 => Ok(Kind::Picometres),
+            _ => Err(io::Error::from(ErrorKind::InvalidData)),
+        }
+    }
+}
 
 // The most bytes that a file has, or that are lent as a table or as a buffer.
 const MOST: usize = 65_536;
@@ -58,7 +72,7 @@ const FILL: u8 = 0xA5;
 // One step: its kind, the bytes that follow it, the bytes that are lent as a table and as a buffer or a row, and a point.
 #[derive(Clone, Copy)]
 struct Step {
-    kind: u64,
+    kind: Kind,
     size: usize,
     table: usize,
     buffer: usize,
@@ -73,6 +87,7 @@ struct Step {
 struct State {
     len: usize,
     summary: Summary,
+    ghost fits: { len ≤ 65_536 },
 }
 
 // ---- reading
@@ -92,67 +107,29 @@ fn read_full(input: &mut impl Read, buf: &mut [u8]) -> io::Result<usize>
     Ok(done)
 }
 
-// The next step; END where none is left.
-fn next_step(input: &mut impl Read) -> io::Result<Step> {
+// The next step; none where the input ends.
+fn next_step(input: &mut impl Read) -> io::Result<Option<Step>> {
     let mut s = [0u8; 48];
-    read_full(input, &mut s)?;
-    Ok(Step {
-        kind: le4(&s, 0),
-        size: le4(&s, 4) as usize,
-        table: le4(&s, 8) as usize,
-        buffer: le4(&s, 12) as usize,
-        scene: le8(&s, 16),
-        t: le8(&s, 24),
-        c: le8(&s, 32),
-        z: le8(&s, 40),
-    })
+    if read_full(input, &mut s)? < s.len() {
+        return Ok(None);
+    }
+    Ok(Some(Step {
+        kind: Kind::try_from(le::<4>(&s, 0))?,
+        size: le::<4>(&s, 4) as usize,
+        table: le::<4>(&s, 8) as usize,
+        buffer: le::<4>(&s, 12) as usize,
+        scene: le::<8>(&s, 16),
+        t: le::<8>(&s, 24),
+        c: le::<8>(&s, 32),
+        z: le::<8>(&s, 40),
+    }))
 }
 
-fn axis_of(n: u64) -> Axis {
-    if n == 0 {
-        return Axis::T;
-    }
-    if n == 1 {
-        return Axis::Z;
-    }
-    Axis::P
-}
-
-// The loop at `at`: its axis and its count.
-fn loop_at(s: &[u8], at: usize) -> Loop
-    requires { at + 16 ≤ length s.now }
-{
-    let axis = axis_of(le8(s, at));
-    Loop {
-        axis,
-        count: le8(s, at + 8),
-    }
-}
-
-// The summary that a step says, with nothing of a calibration.
-fn summary_in(s: &[u8]) -> Summary
-    requires { 112 ≤ length s.now }
-{
-    let loops = [loop_at(s, 0), loop_at(s, 16), loop_at(s, 32)];
-    let map = Range {
-        start: le8(s, 96),
-        len: le8(s, 104),
-    };
-    Summary {
-        loops,
-        depth: le8(s, 48),
-        width: le8(s, 56),
-        stride: le8(s, 64),
-        height: le8(s, 72),
-        components: le8(s, 80),
-        bits: le8(s, 88),
-        map,
-        calibration: 0,
-        x: 0.0,
-        y: 0.0,
-        class: 0,
-        z: 0.0,
-    }
+// The summary that 14 numbers say, with nothing of a calibration.
+fn said(numbers: &[u8]) -> Option<Summary> {
+    let mut lent = [0u8; SUMMARY_BYTES];
+    lent[..112].copy_from_slice(numbers.get(..112)?);
+    Some(summary_in(&lent))
 }
 
 // ---- printing
@@ -164,25 +141,26 @@ fn show_label(out: &mut impl Write, text: &[u8]) -> io::Result<()> {
 }
 
 // An answer's line.
-fn show(out: &mut impl Write, call: &[u8], number: u32, sum: u64) -> io::Result<()> {
-    out.write_all(call)?;
-    writeln!(out, "{number} {sum:08x}")
+fn show(out: &mut impl Write, call: &str, number: u32, sum: u64) -> io::Result<()> {
+    writeln!(out, "{call} {number} {sum:08x}")
+}
+
+// The number of a call's answer.
+fn number_of(answer: Result<(), Refusal>) -> u32 {
+    match answer {
+        Ok(()) => 0,
+        Err(refusal) => refusal.number(),
+    }
 }
 
 // ---- asking
 
-fn fill(s: &mut [u8]) {
-    let mut i = 0;
-    while i < s.len() {
-        s[i] = FILL;
-        i += 1;
-    }
-}
-
 fn ask_open(out: &mut impl Write, file: &[u8], table: &mut [u8]) -> io::Result<Summary> {
-    let o = open(file, table);
-    let u = o.summary;
-    show(out, b"open ", o.number, fold_bytes(fold_summary(u), table))?;
+    let (number, u) = match open(file, table) {
+        Ok(u) => (0, u),
+        Err(refusal) => (refusal.number(), summary_in(&[0u8; SUMMARY_BYTES])),
+    };
+    show(out, "open", number, fold_bytes(fold_summary(u), table))?;
     Ok(u)
 }
 
@@ -193,8 +171,8 @@ fn ask_plane(
     q: Step,
     buffer: &mut [u8],
 ) -> io::Result<()> {
-    let n = plane(file, u, q.scene, q.t, q.c, q.z, buffer);
-    show(out, b"plane ", n, fold_bytes(0, buffer))
+    let n = number_of(plane(file, u, q.scene, q.t, q.c, q.z, buffer));
+    show(out, "plane", n, fold_bytes(0, buffer))
 }
 
 fn ask_sheet(
@@ -204,8 +182,8 @@ fn ask_sheet(
     q: Step,
     lent: &mut [u8],
 ) -> io::Result<()> {
-    let n = sheet(file, u, q.scene, q.t, q.c, q.z, lent);
-    show(out, b"sheet ", n, fold_bytes(0, lent))
+    let n = number_of(sheet(file, u, q.scene, q.t, q.c, q.z, lent));
+    show(out, "sheet", n, fold_bytes(0, lent))
 }
 
 // A sheet that is read, as the C interface has it: width, height and bits are lent numbers.
@@ -215,10 +193,10 @@ fn ask_read(out: &mut impl Write, lent: &[u8], samples: &mut [u8]) -> io::Result
     let mut bits: u64 = 1;
     let n = nd2_sheet_read(lent, samples, &mut width, &mut height, &mut bits);
     let mut sizes = [0u8; 24];
-    put8(&mut sizes, 0, width);
-    put8(&mut sizes, 8, height);
-    put8(&mut sizes, 16, bits);
-    show(out, b"read ", n, fold_bytes(fold_bytes(0, &sizes), samples))
+    put::<8>(&mut sizes, 0, width);
+    put::<8>(&mut sizes, 8, height);
+    put::<8>(&mut sizes, 16, bits);
+    show(out, "read", n, fold_bytes(fold_bytes(0, &sizes), samples))
 }
 
 fn ask_tree(
@@ -228,8 +206,8 @@ fn ask_tree(
     name: &[u8],
     table: &mut [u8],
 ) -> io::Result<()> {
-    let n = tree(file, u, name, table);
-    show(out, b"tree ", n, fold_bytes(0, table))
+    let n = number_of(tree(file, u, name, table));
+    show(out, "tree", n, fold_bytes(0, table))
 }
 
 fn ask_register(
@@ -238,8 +216,8 @@ fn ask_register(
     u: Summary,
     buffer: &mut [u8],
 ) -> io::Result<()> {
-    let n = register(file, u, buffer);
-    show(out, b"register ", n, fold_bytes(0, buffer))
+    let n = number_of(register(file, u, buffer));
+    show(out, "register", n, fold_bytes(0, buffer))
 }
 
 fn ask_border(
@@ -250,10 +228,17 @@ fn ask_border(
     buffer: &mut [u8],
 ) -> io::Result<()> {
     let n = nd2_read_plane(file, table, q.scene, q.t, q.c, q.z, buffer);
-    show(out, b"border ", n, fold_bytes(fold_bytes(0, table), buffer))
+    show(out, "border", n, fold_bytes(fold_bytes(0, table), buffer))
 }
 
-// The channels, as the C interface has them: summary and records are lent bytes.
+// A summary as the C interface has it: lent bytes.
+fn lent(u: Summary) -> [u8; SUMMARY_BYTES] {
+    let mut b = [0u8; SUMMARY_BYTES];
+    put_summary(&mut b, u);
+    b
+}
+
+// The channels, as the C interface has them: the records are lent bytes too.
 fn ask_channels(
     out: &mut impl Write,
     file: &[u8],
@@ -261,58 +246,31 @@ fn ask_channels(
     table: &mut [u8],
     row: &mut [u8],
 ) -> io::Result<()> {
-    let mut summary = [0u8; 144];
-    put_summary(&mut summary, u);
-    let n = nd2_channels(file, &summary, table, row);
-    show(out, b"channels ", n, fold_bytes(fold_bytes(0, row), table))
+    let n = nd2_channels(file, &lent(u), table, row);
+    show(out, "channels", n, fold_bytes(fold_bytes(0, row), table))
 }
 
-// The pixel size in picometres, as the C interface has it: the summary is lent bytes, and the size a lent number.
+// The pixel size in picometres, as the C interface has it: the size is a lent number.
 fn ask_picometres(
     out: &mut impl Write,
     file: &[u8],
     u: Summary,
     table: &mut [u8],
 ) -> io::Result<()> {
-    let mut summary = [0u8; 144];
-    put_summary(&mut summary, u);
     let mut picometres: u64 = 1;
-    let n = nd2_picometres(file, &summary, table, &mut picometres);
+    let n = nd2_picometres(file, &lent(u), table, &mut picometres);
     let mut size = [0u8; 8];
-    put8(&mut size, 0, picometres);
+    put::<8>(&mut size, 0, picometres);
     show(
         out,
-        b"picometres ",
+        "picometres",
         n,
         fold_bytes(fold_bytes(0, &size), table),
     )
 }
 
-// The question of a step that is lent a buffer alone; `text` is what follows the step.
-fn ask_buffer(
-    out: &mut impl Write,
-    file: &[u8],
-    u: Summary,
-    q: Step,
-    text: &[u8],
-    buffer: &mut [u8],
-) -> io::Result<()> {
-    if q.kind == PLANE {
-        return ask_plane(out, file, u, q, buffer);
-    }
-    if q.kind == REGISTER {
-        return ask_register(out, file, u, buffer);
-    }
-    if q.kind == SHEET {
-        return ask_sheet(out, file, u, q, buffer);
-    }
-    if q.kind == READ_SHEET {
-        return ask_read(out, text, buffer);
-    }
-    Ok(())
-}
-
-// The question of a step, over what is lent to it. The summary afterwards is the one that opening gave, if that was asked.
+// What a step asks, over what is lent to it; `text` is what follows the step. The summary afterwards is the one that opening gave or that the
+// step says, if it was such a step.
 fn ask(
     out: &mut impl Write,
     file: &[u8],
@@ -322,157 +280,74 @@ fn ask(
     table: &mut [u8],
     buffer: &mut [u8],
 ) -> io::Result<Summary> {
-    if q.kind == OPEN {
-        return ask_open(out, file, table);
+    match q.kind {
+        Kind::File => {} // was read
+        Kind::Label => show_label(out, text)?,
+        Kind::Summary => return Ok(said(text).unwrap_or(u)),
+        Kind::Open => return ask_open(out, file, table),
+        Kind::Plane => ask_plane(out, file, u, q, buffer)?,
+        Kind::Tree => ask_tree(out, file, u, text, table)?,
+        Kind::Register => ask_register(out, file, u, buffer)?,
+        Kind::Border => ask_border(out, file, q, table, buffer)?,
+        Kind::Channels => ask_channels(out, file, u, table, buffer)?,
+        Kind::Sheet => ask_sheet(out, file, u, q, buffer)?,
+        Kind::ReadSheet => ask_read(out, text, buffer)?,
+        Kind::Picometres => ask_picometres(out, file, u, table)?,
     }
-    if q.kind == TREE {
-        ask_tree(out, file, u, text, table)?;
-        return Ok(u);
-    }
-    if q.kind == PICOMETRES {
-        ask_picometres(out, file, u, table)?;
-        return Ok(u);
-    }
-    if q.kind == BORDER {
-        ask_border(out, file, q, table, buffer)?;
-        return Ok(u);
-    }
-    if q.kind == CHANNELS {
-        ask_channels(out, file, u, table, buffer)?;
-        return Ok(u);
-    }
-    ask_buffer(out, file, u, q, text, buffer)?;
     Ok(u)
 }
 
 // ---- one step after the other
 
-// A label, a summary or a question, once the bytes that follow the step are read.
-fn take_with(
-    input: &mut impl Read,
-    out: &mut impl Write,
-    file: &[u8],
-    u: Summary,
-    q: Step,
-    text: &mut [u8],
-    table: &mut [u8],
-    buffer: &mut [u8],
-) -> io::Result<Summary> {
-    read_full(input, text)?;
-    if q.kind == LABEL {
-        show_label(out, text)?;
-        return Ok(u);
-    }
-    if q.kind == SUMMARY {
-        if text.len() < 112 {
-            return Ok(u);
-        }
-        return Ok(summary_in(text));
-    }
-    fill(table);
-    fill(buffer);
-    ask(out, file, u, q, text, table, buffer)
-}
-
-// The same with as many bytes lent as the step says.
-fn take_lent(
-    input: &mut impl Read,
-    out: &mut impl Write,
-    file: &[u8],
-    u: Summary,
-    q: Step,
-) -> io::Result<Summary> {
-    let n = q.size;
-    let t = q.table;
-    let b = q.buffer;
-    if MOST < n {
-        return Ok(u);
-    }
-    if MOST < t {
-        return Ok(u);
-    }
-    if MOST < b {
-        return Ok(u);
-    }
-    let mut text = [0u8; MOST];
-    let mut table = [0u8; MOST];
-    let mut buffer = [0u8; MOST];
-    take_with(
-        input,
-        out,
-        file,
-        u,
-        q,
-        &mut text[..n],
-        &mut table[..t],
-        &mut buffer[..b],
-    )
-}
-
-// Reads the file that follows a step; its length.
-fn read_file(input: &mut impl Read, file: &mut [u8], size: usize) -> io::Result<usize> {
-    if file.len() < size {
-        return Ok(0);
-    }
-    read_full(input, &mut file[..size])
-}
-
+// A step, with as many bytes lent as it says, once the bytes that follow it are read.
 fn take(
     input: &mut impl Read,
     out: &mut impl Write,
-    file: &mut [u8],
+    file: &mut [u8; MOST],
     s: State,
     q: Step,
 ) -> io::Result<State> {
-    let u = s.summary;
-    if q.kind == FILE {
-        let len = read_file(input, file, q.size)?;
-        return Ok(State { len, summary: u });
+    if q.size > MOST || q.table > MOST || q.buffer > MOST {
+        return Err(io::Error::from(ErrorKind::InvalidData));
     }
-    let len = s.len;
-    if file.len() < len {
-        return Ok(s);
+    let mut text = [0u8; MOST];
+    let mut table = [FILL; MOST];
+    let mut buffer = [FILL; MOST];
+    let read = read_full(input, &mut text[..q.size])?;
+    if q.kind == Kind::File {
+        *file = text;
+        return Ok(State {
+            len: read,
+            summary: s.summary,
+        });
     }
-    let summary = take_lent(input, out, &file[..len], u, q)?;
-    Ok(State { len, summary })
-}
-
-fn no_summary() -> Summary {
-    let l = Loop {
-        axis: Axis::T,
-        count: 0,
-    };
-    let map = Range { start: 0, len: 0 };
-    Summary {
-        loops: [l; 3],
-        depth: 0,
-        width: 0,
-        stride: 0,
-        height: 0,
-        components: 0,
-        bits: 0,
-        map,
-        calibration: 0,
-        x: 0.0,
-        y: 0.0,
-        class: 0,
-        z: 0.0,
-    }
+    let summary = ask(
+        out,
+        &file[..s.len],
+        s.summary,
+        q,
+        &text[..q.size],
+        &mut table[..q.table],
+        &mut buffer[..q.buffer],
+    )?;
+    Ok(State {
+        len: s.len,
+        summary,
+    })
 }
 
 // A loop has to end, and nothing says that a file does: it counts its turns, more than any list has steps.
 fn replay(input: &mut impl Read, out: &mut impl Write) -> io::Result<()> {
     let mut file = [0u8; MOST];
-    let summary = no_summary();
-    let mut s = State { len: 0, summary };
-    let mut turns: u64 = 0;
-    while turns < 1_000_000 {
-        let q = next_step(input)?;
-        if q.kind == END {
+    let mut s = State {
+        len: 0,
+        summary: summary_in(&[0u8; SUMMARY_BYTES]),
+    };
+    for _ in 0..1_000_000 {
+        let Some(q) = next_step(input)? else {
             return Ok(());
-        }
+        };
         s = take(input, out, &mut file, s, q)?;
-        turns += 1;
     }
     Ok(())
 }

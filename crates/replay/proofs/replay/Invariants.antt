@@ -1,11 +1,6 @@
--- `replay::replay` ends with its turns.
-use Prim.Native.Nat.{◌-◌}
-use mathlib.Core.Path.{◌≡◌}
-use lib.ListN.{length}
+-- `replay::replay` keeps a state whose file fits: `.0` is its `len`.
+use Prim.Native.Nat.{◌≤◌}
 use Rattle.replay.proofs.replay.Given as goal
 
-abbrev pub invariant-loop-turns : goal.invariant-loop-turns
-invariant-loop-turns g l = 65536 ≡ length l.file
-
-abbrev pub decreases-loop-turns : goal.decreases-loop-turns
-decreases-loop-turns g l = 1000000 - l.turns
+abbrev pub invariant-loop : goal.invariant-loop
+invariant-loop g l = l.s.0 ≤ 65536
