@@ -4,7 +4,7 @@
 
 ghost use Rattle.std.specs.Prelude.{◌+◌, ◌*◌, ◌≤◌, ◌<◌, length};
 
-use cursor::le2;
+use cursor::le;
 use format::Comparison;
 use name::ascii::compare_ascii;
 use name::compare_names;
@@ -27,7 +27,7 @@ fn put_units(out: &mut impl Write, s: &[u8], at: usize, n: usize) -> io::Result<
 {
     let mut i = 0;
     while i < n {
-        put_unit(out, le2(s, at + 2 * i))?;
+        put_unit(out, le::<2>(s, at + 2 * i))?;
         i += 1;
     }
     Ok(())
