@@ -17,7 +17,7 @@ use register::register;
 use sheet::sheet;
 use std::fs::File;
 use std::io;
-use std::io::{ErrorKind, Read, Write};
+use std::io::{Read, Write};
 use sum::{fold_bytes, fold_summary};
 use tree_call::tree;
 
@@ -40,26 +40,22 @@ enum Kind {
     Picometres,
 }
 
-// The kind of a stored number.
-impl TryFrom<u64> for Kind {
-    type Error = io::Error;
-
-    fn try_from(n: u64) -> io::Result<Kind> {
-        match n {
-            1 => Ok(Kind::Label),
-            2 => Ok(Kind::File),
-            3 => Ok(Kind::Summary),
-            4 => Ok(Kind::Open),
-            5 => Ok(Kind::Plane),
-            6 => Ok(Kind::Tree),
-            7 => Ok(Kind::Register),
-            8 => Ok(Kind::Border),
-            9 => Ok(Kind::Channels),
-            10 => Ok(Kind::Sheet),
-            11 => Ok(Kind::ReadSheet),
-            12 => Ok(Kind::Picometres),
-            _ => Err(io::Error::from(ErrorKind::InvalidData)),
-        }
+// The kind of a stored number, if a step has it.
+fn kind_of(n: u64) -> Option<Kind> {
+    match n {
+        1 => Some(Kind::Label),
+        2 => Some(Kind::File),
+        3 => Some(Kind::Summary),
+        4 => Some(Kind::Open),
+        5 => Some(Kind::Plane),
+        6 => Some(Kind::Tree),
+        7 => Some(Kind::Register),
+        8 => Some(Kind::Border),
+        9 => Some(Kind::Channels),
+        10 => Some(Kind::Sheet),
+        11 => Some(Kind::ReadSheet),
+        12 => Some(Kind::Picometres),
+        _ => None,
     }
 }
 
@@ -69,10 +65,10 @@ const MOST: usize = 65_536;
 // What lent bytes hold before a call.
 const FILL: u8 = 0xA5;
 
-// One step: its kind, the bytes that follow it, the bytes that are lent as a table and as a buffer or a row, and a point.
+// One step: its kind, none where its number is no step's, the bytes that follow it, the bytes that are lent as a table and as a buffer or a row, and a point.
 #[derive(Clone, Copy)]
 struct Step {
-    kind: Kind,
+    kind: Option<Kind>,
     size: usize,
     table: usize,
     buffer: usize,
@@ -107,14 +103,16 @@ fn read_full(input: &mut impl Read, buf: &mut [u8]) -> io::Result<usize>
     Ok(done)
 }
 
-// The next step; none where the input ends.
+// The next step; none where the input ends or the number 0 stands. What a step lacks at the end of the input is zero.
 fn next_step(input: &mut impl Read) -> io::Result<Option<Step>> {
     let mut s = [0u8; 48];
-    if read_full(input, &mut s)? < s.len() {
+    read_full(input, &mut s)?;
+    let number = le::<4>(&s, 0);
+    if number == 0 {
         return Ok(None);
     }
     Ok(Some(Step {
-        kind: Kind::try_from(le::<4>(&s, 0))?,
+        kind: kind_of(number),
         size: le::<4>(&s, 4) as usize,
         table: le::<4>(&s, 8) as usize,
         buffer: le::<4>(&s, 12) as usize,
@@ -280,7 +278,10 @@ fn ask(
     table: &mut [u8],
     buffer: &mut [u8],
 ) -> io::Result<Summary> {
-    match q.kind {
+    let Some(kind) = q.kind else {
+        return Ok(u);
+    };
+    match kind {
         Kind::File => {} // was read
         Kind::Label => show_label(out, text)?,
         Kind::Summary => return Ok(said(text).unwrap_or(u)),
@@ -299,7 +300,17 @@ fn ask(
 
 // ---- one step after the other
 
-// A step, with as many bytes lent as it says, once the bytes that follow it are read.
+// Reads the file that follows a step; its length, 0 where there is no room for it.
+fn read_file(input: &mut impl Read, file: &mut [u8; MOST], size: usize) -> io::Result<usize>
+    ensures { IfOk result (λ n. n ≤ 65_536) }
+{
+    if MOST < size {
+        return Ok(0);
+    }
+    read_full(input, &mut file[..size])
+}
+
+// A step, with as many bytes lent as it says, once the bytes that follow it are read; one that says more than there are is passed over.
 fn take(
     input: &mut impl Read,
     out: &mut impl Write,
@@ -307,20 +318,20 @@ fn take(
     s: State,
     q: Step,
 ) -> io::Result<State> {
+    if q.kind == Some(Kind::File) {
+        let len = read_file(input, file, q.size)?;
+        return Ok(State {
+            len,
+            summary: s.summary,
+        });
+    }
     if q.size > MOST || q.table > MOST || q.buffer > MOST {
-        return Err(io::Error::from(ErrorKind::InvalidData));
+        return Ok(s);
     }
     let mut text = [0u8; MOST];
     let mut table = [FILL; MOST];
     let mut buffer = [FILL; MOST];
-    let read = read_full(input, &mut text[..q.size])?;
-    if q.kind == Kind::File {
-        *file = text;
-        return Ok(State {
-            len: read,
-            summary: s.summary,
-        });
-    }
+    read_full(input, &mut text[..q.size])?;
     let summary = ask(
         out,
         &file[..s.len],
