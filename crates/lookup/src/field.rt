@@ -16,7 +16,7 @@ impl<'a> Tree<'a> {
         ensures { (found result ≡ find name.now (slots_of (bytes self.entry) (entries self.entry) parent)) × Within self.entry.used result }
     {
         let end = self.end_of(parent);
-        self.last_named(parent, parent, end, None, Name::Ascii(name))
+        self.last_named(parent, end, Name::Ascii(name))
     }
 
     // The value of a name.

@@ -6,10 +6,10 @@
 use format::Entry;
 
 mod child;
-mod entry;
+pub mod entry;
 mod field;
 mod hash;
-mod list;
+pub mod list;
 mod named;
 mod parts;
 mod place;
@@ -34,7 +34,7 @@ pub enum ClxValue {
 
 // A name that is looked for: of ASCII bytes, or an entry's.
 #[derive(Clone, Copy)]
-pub(crate) enum Name<'a> {
+pub enum Name<'a> {
     Ascii(&'a [u8]),
     Of(Entry),
 }

@@ -72,7 +72,7 @@ impl<'a> Tree<'a> {
             (name_of (bytes self.entry) (row self.entry i)) end) × Within self.entry.used result }
     {
         let e = self.entry_at(i);
-        self.last_named(parent, self.after(i), end, Some(i), Name::Of(e))
+        self.last_alike(parent, self.after(i), end, Some(i), Name::Of(e))
     }
 
     // The level that the value of a place is: the last value of its name, which is its own where no other child has the name.

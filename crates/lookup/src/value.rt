@@ -5,38 +5,47 @@ ghost use Rattle.format.specs.Given.{maybe};
 ghost use Rattle.format.specs.Values.{Value, whole, leaf, value_at, slots_of, as_level};
 ghost use Rattle.format.specs.Numbers.{unsigned, signed, float};
 ghost use Rattle.format.specs.declared.Entry.{Entry};
-ghost use Rattle.lookup.specs.Table.{Lies, found, Within};
+ghost use Rattle.lookup.specs.Table.{entries_in, Lies, Rows, found, Within};
 ghost use Rattle.lookup.specs.View.{bytes, entries};
 ghost use Rattle.lookup.specs.Values.{only_unnamed, meaning, Inside};
 
+use crate::entry::{after, entry_at};
 use crate::{ClxValue, Tree};
 use cursor::le;
 use format::{Entry, clx_type};
 use number::double_of;
 
+// Whether a level is a list: it has children, and none has a name.
+pub fn is_list(table: &[u8], used: usize, parent: usize) -> bool
+    requires { Rows table.now used × (parent ≤ used) }
+    ensures { (s : List ℕ) → result ≡ only_unnamed (slots_of s (entries_in table.now used) parent) }
+{
+    let mut seen = false;
+    let mut i = parent;
+    while i < used {
+        let e = entry_at(table, i);
+        let p = e.parent as usize;
+        if p < parent {
+            return seen;
+        }
+        if p == parent {
+            if e.units != 0 {
+                return false;
+            }
+            seen = true;
+        }
+        i = after(table, used, i);
+    }
+    seen
+}
+
 impl<'a> Tree<'a> {
-    // Whether a level is a list: it has children, and none has a name.
+    // Whether a level of the tree is a list.
     pub fn is_list(self, parent: usize) -> bool
         requires { parent ≤ self.used }
         ensures { (s : List ℕ) → result ≡ only_unnamed (slots_of s (entries self.entry) parent) }
     {
-        let mut seen = false;
-        let mut i = parent;
-        while i < self.used {
-            let e = self.entry_at(i);
-            let p = e.parent as usize;
-            if p < parent {
-                return seen;
-            }
-            if p == parent {
-                if e.units != 0 {
-                    return false;
-                }
-                seen = true;
-            }
-            i = self.after(i);
-        }
-        seen
+        is_list(self.table, self.used, parent)
     }
 
     // The value of entry i.

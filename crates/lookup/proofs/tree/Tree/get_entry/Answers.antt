@@ -1,13 +1,12 @@
 -- The search goes through the level's run.
-use mathlib.Core.Path.{sym, ◌∙◌}
-use Rattle.lookup.proofs.Search.{find_run, last_none, within_more}
-use native.Mathlib.Omega.{arith}
+use mathlib.Core.Path.{◌∙◌}
+use Rattle.lookup.proofs.Search.{find_run, within_more}
 use Rattle.lookup.proofs.tree.Tree.get_entry.Goals as goal
 
 pub last_named-requires : goal.last_named-requires
 last_named-requires c =
     let r = c.end_of-end.ensures.below in
-    (omega arith, r.low, r.high, tt, sym (last_none _ _ _ _ _ _ c.args.self.holds.rows.order (omega arith) c.requires.0), tt)
+    (r.low, r.high, tt)
 
 pub returns : goal.returns
 returns c =

@@ -6,9 +6,9 @@ use Rattle.lookup.proofs.Leading.{last_own}
 use Rattle.lookup.proofs.Rows.{run_inside}
 use Rattle.lookup.proofs.tree.Tree.last_of.Goals as goal
 
-pub last_named-requires : goal.last_named-requires
+pub last_alike-requires : goal.last_alike-requires
 unfolding name_of
-last_named-requires c =
+last_alike-requires c =
     let p = c.requires in
     let r = c.after.ensures in (
       omega (arith, p.1, r.below.low),

@@ -1,0 +1,7 @@
+-- The name is the second of an entry's six numbers.
+use Rattle.lookup.specs.Table.{entry_in}
+use Rattle.lookup.proofs.entry.name_at.Goals as goal
+
+pub returns : goal.returns
+unfolding entry_in
+returns c = c.number_at.ensures

@@ -1,9 +1,0 @@
-use Prim.Native.Nat.{ℕ, ◌-◌, ◌≤◌, ◌<◌}
-use Rattle.lookup.specs.Table.{entry_in}
-use Rattle.lookup.proofs.tree.Tree.first_from.Given as goal
-
-abbrev pub invariant-loop-low : goal.invariant-loop-low
-invariant-loop-low l = (l.parent ≤ l.low) × (l.low ≤ l.self.used) × ((k : ℕ) → l.parent ≤ k → k < l.low → (entry_in l.self.table.now k).name ≤ l.to)
-
-abbrev pub decreases-loop-low : goal.decreases-loop-low
-decreases-loop-low l = l.self.used - l.low

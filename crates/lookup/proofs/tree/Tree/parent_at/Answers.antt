@@ -1,7 +1,0 @@
--- The parent is the last of an entry's six numbers.
-use Rattle.lookup.specs.Table.{entry_in}
-use Rattle.lookup.proofs.tree.Tree.parent_at.Goals as goal
-
-pub returns : goal.returns
-unfolding entry_in
-returns c = c.le.ensures.0
