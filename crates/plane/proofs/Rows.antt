@@ -2,11 +2,11 @@
 use Prim.Native.Nat.{ℕ, zero, suc, ◌+◌, ◌-◌, ◌*◌, ◌≤◌, ◌<◌}
 use mathlib.Core.Path.{◌≡◌, refl, sym, ap, ap₂, ◌∙◌}
 use mathlib.Core.List.{List, [], ◌∷◌, ◌++◌, append_assoc, append-nil}
-use native.Mathlib.Nat.{add-zero, add-suc, suc-mul, zero-mul, mul-one, add-mul, mul-le-mul_right, add-sub_cancel_left}
+use native.Mathlib.Nat.{add-zero, add-suc, suc-mul, zero-mul, mul-one, add-mul, le_trans, mul-le-mul_right, add-sub_cancel_left}
 use native.Mathlib.Numerals.{add-one}
 use native.Mathlib.Omega.{arith}
 use lib.ListN.{length, take, drop, get_or, set, length-append}
-use lib.Seq.{drop-cons, drop-drop, sets, sets-eq}
+use lib.Seq.{drop-cons, drop-drop, drop-append-add, sets, sets-eq}
 use borrow.Rule.Slice.PartMut.{put_mid}
 use Rattle.format.specs.Bytes.{part, over}
 use Rattle.format.proofs.Ground.Bytes.{part_length, sets_append}
@@ -50,6 +50,19 @@ pieces_append s at step size k (suc n) =
     rw (← append_assoc, pieces_append s at step size k n, e, add-suc) refl
 
 module _ (s : List ℕ) (at step size : ℕ) (apart : at + size ≤ step) where
+  -- n of them over the first k of them
+  pub over_first : (d : List ℕ) (k n : ℕ) → k ≤ n → n * step ≤ length s
+      → over (pieces s at step size n) (over (pieces s at step size k) d) ≡ over (pieces s at step size n) d
+  unfolding over
+  over_first d k n h hn =
+      let hk : k * step ≤ length s = le_trans (mul-le-mul_right step h) hn in
+      let p = pieces s at step size k in
+      let l = pieces_length s at step size apart k hk in
+      let rest = n * size - k * size in
+      let e : n * size ≡ length p + rest = omega (arith, l, mul-le-mul_right size h) in
+      ap (λ (l : List ℕ). pieces s at step size n ++ l)
+      (rw (pieces_length s at step size apart n hn, e) (drop-append-add p (drop (length p) d) rest ∙ drop-drop rest (length p) d))
+
   -- the bytes of d behind k of them, replaced by the next n
   pub pieces_more : (d₀ d q : List ℕ) (k n : ℕ) → d ≡ over (pieces s at step size k) d₀ → (k + n) * step ≤ length s → (k + n) * size ≤ length d₀
       → q ≡ sets d (k * size) (pieces s (at + k * step) step size n) → q ≡ over (pieces s at step size (k + n)) d₀

@@ -2,7 +2,7 @@
 use Prim.Native.Nat.{ℕ, zero, suc, ◌+◌, ◌-◌, ◌*◌, ◌/◌, ◌%◌, ◌≤◌, ◌<◌}
 use mathlib.Core.Path.{◌≡◌, refl, sym, ap, ap₂, ◌∙◌}
 use mathlib.Core.List.{List, ◌++◌, append_assoc, append-nil}
-use native.Mathlib.Nat.{add-zero, zero-add, suc-add, suc-mul, zero-mul, one-mul, add-mul, mul_assoc, mul_comm}
+use native.Mathlib.Nat.{add-zero, zero-add, suc-add, suc-mul, zero-mul, one-mul, add-mul, mul_assoc, mul_comm, mul-le-mul_right}
 use native.Mathlib.Nat.{mul-add-div_right, mul-add-mod_self_right, mod-eq_of_lt, div-eq_of_lt}
 use native.Mathlib.Omega.{arith}
 use lib.ListN.{length, take, drop}
@@ -29,6 +29,13 @@ module _ {u : Summary} {c len room : ℕ} (f : Fit u c len room) where
 
   row_in : u.width * (u.components * sample_bytes u.bits) ≤ u.stride
   row_in = rw (← mul_assoc) f.shape.row_fits
+
+  pub step_in : u.components * sample_bytes u.bits ≤ u.stride
+  step_in =
+      let step = u.components * sample_bytes u.bits in
+      let k : 1 * step ≤ u.width * step = mul-le-mul_right step f.shape.width_some in
+      let e = one-mul step in
+      omega (arith, row_in)
 
   pub all_in : u.height * (u.width * sample_bytes u.bits) ≤ room
   all_in = rw (← mul_assoc, mul_comm u.height u.width) f.enough

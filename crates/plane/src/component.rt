@@ -51,15 +51,31 @@ fn gather_by_bits(rows: &[u8], u: Summary, c: u64, components: usize, samples: &
     }
 }
 
-// Copies the samples of component c: whole rows where there is no other, and else sample by sample; for two of them the step is a literal. Where all are one
-// run, `lead` bytes of it are copied first.
+// Copies the samples of component c of two: with the step as a literal.
+fn gather_of_two(rows: &[u8], u: Summary, c: u64, samples: &mut [u8])
+    requires { (u.components ≡ 2) × Fit u c (length rows.now) (length samples.old) }
+    ensures { samples.new ≡ over (plane_in u c rows.now) samples.old }
+{
+    gather_by_bits(rows, u, c, 2, samples);
+}
+
+// Copies the samples of component c of any number. It is a function of its own, since the literal is lost where one has both calls.
+fn gather_of_many(rows: &[u8], u: Summary, c: u64, samples: &mut [u8])
+    requires { Fit u c (length rows.now) (length samples.old) }
+    ensures { samples.new ≡ over (plane_in u c rows.now) samples.old }
+{
+    gather_by_bits(rows, u, c, u.components as usize, samples);
+}
+
+// Copies the samples of component c: whole rows where there is no other, and else sample by sample. Where all are one run, `lead` bytes of it are copied
+// first.
 pub fn copy_samples(rows: &[u8], u: Summary, c: u64, samples: &mut [u8], lead: usize)
     requires { Fit u c (length rows.now) (length samples.old) }
     ensures { samples.new ≡ over (plane_in u c rows.now) samples.old }
 {
     match u.components {
         1 => copy_rows(rows, u, c, samples, lead),
-        2 => gather_by_bits(rows, u, c, 2, samples),
-        n => gather_by_bits(rows, u, c, n as usize, samples),
+        2 => gather_of_two(rows, u, c, samples),
+        _ => gather_of_many(rows, u, c, samples),
     }
 }

@@ -16,6 +16,16 @@ const WIDE: usize = 64;
 // Rows of fewer bytes are copied one after another.
 const LONG_ROW: usize = 512;
 
+// Copies src into dst, which is as long: byte by byte, of which the compiler makes one call of memcpy.
+fn copy_bytes(src: &[u8], dst: &mut [u8])
+    requires { length src.now ≡ length dst.old }
+    ensures { dst.new ≡ src.now }
+{
+    for i in 0..dst.len() {
+        dst[i] = src[i];
+    }
+}
+
 // Copies N bytes into dst through a local array. Nothing else lies there, so the compiler reads them in one piece and writes them in one.
 pub fn copy_block<const N: usize>(src: &[u8], dst: &mut [u8])
     requires { (length src.now ≡ N) × (length dst.old ≡ N) }
@@ -49,7 +59,7 @@ pub fn copy_run(src: &[u8], dst: &mut [u8])
         copy_blocks(src, dst, size, i * BLOCK);
     }
     let done = PARTS * size;
-    dst[done..].copy_from_slice(&src[done..]);
+    copy_bytes(&src[done..], &mut dst[done..]);
 }
 
 // Copies src into dst, which is as long: `lead` bytes by themselves, so that what is copied in blocks begins where memory takes a block in one piece.
@@ -58,10 +68,10 @@ fn copy_with_lead(src: &[u8], dst: &mut [u8], lead: usize)
     ensures { dst.new ≡ src.now }
 {
     if dst.len() < lead {
-        dst.copy_from_slice(src);
+        copy_bytes(src, dst);
         return;
     }
-    dst[..lead].copy_from_slice(&src[..lead]);
+    copy_bytes(&src[..lead], &mut dst[..lead]);
     copy_run(&src[lead..], &mut dst[lead..]);
 }
 
@@ -111,15 +121,45 @@ fn copy_apart(src: &[u8], dst: &mut [u8], stride: usize, w: usize, count: usize,
     }
 }
 
-// Copies the first `w` bytes of each of `count` rows of `stride` bytes to the front of dst.
-fn copy_short(src: &[u8], dst: &mut [u8], stride: usize, w: usize, count: usize)
-    requires { (w ≤ stride) × (count * stride ≤ length src.now) × (count * w ≤ length dst.old) }
-    ensures { dst.new ≡ over (pieces src.now 0 stride w count) dst.old }
+// Copies `count` pieces of SIZE bytes, at `at`, at + step, .. in src, to the front of dst, each as a block is. As a part of its caller it would have
+// no registers left for both places.
+#[inline(never)]
+fn copy_equal<const SIZE: usize>(src: &[u8], dst: &mut [u8], at: usize, step: usize, count: usize)
+    requires { (at + SIZE ≤ step) × (count * step ≤ length src.now) × (count * SIZE ≤ length dst.old) }
+    ensures { dst.new ≡ over (pieces src.now at step SIZE count) dst.old }
 {
     for k in 0..count {
-        let from = k * stride;
-        let to = k * w;
-        dst[to..to + w].copy_from_slice(&src[from..from + w]);
+        let from = at + k * step;
+        let to = k * SIZE;
+        copy_block::<SIZE>(&src[from..from + SIZE], &mut dst[to..to + SIZE]);
+    }
+}
+
+// The same of pieces of `size` bytes.
+#[inline(never)]
+fn copy_any(src: &[u8], dst: &mut [u8], at: usize, step: usize, size: usize, count: usize)
+    requires { (at + size ≤ step) × (count * step ≤ length src.now) × (count * size ≤ length dst.old) }
+    ensures { dst.new ≡ over (pieces src.now at step size count) dst.old }
+{
+    for k in 0..count {
+        let first = at + k * step;
+        let to = k * size;
+        copy_bytes(&src[first..first + size], &mut dst[to..to + size]);
+    }
+}
+
+// The same: small pieces, as samples are, with their size as a literal.
+pub fn copy_pieces(src: &[u8], dst: &mut [u8], at: usize, step: usize, size: usize, count: usize)
+    requires { (at + size ≤ step) × (count * step ≤ length src.now) × (count * size ≤ length dst.old) }
+    ensures { dst.new ≡ over (pieces src.now at step size count) dst.old }
+{
+    match size {
+        1 => copy_equal::<1>(src, dst, at, step, count),
+        2 => copy_equal::<2>(src, dst, at, step, count),
+        3 => copy_equal::<3>(src, dst, at, step, count),
+        4 => copy_equal::<4>(src, dst, at, step, count),
+        8 => copy_equal::<8>(src, dst, at, step, count),
+        _ => copy_any(src, dst, at, step, size, count),
     }
 }
 
@@ -134,7 +174,7 @@ pub fn copy_whole(src: &[u8], dst: &mut [u8], stride: usize, w: usize, count: us
         return;
     }
     if w < LONG_ROW {
-        copy_short(src, dst, stride, w, count);
+        copy_pieces(src, dst, 0, stride, w, count);
         return;
     }
     copy_apart(src, dst, stride, w, count, lead);

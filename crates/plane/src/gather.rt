@@ -35,7 +35,9 @@ fn copy_by_four<const SIZE: usize>(src: &[u8], dst: &mut [u8], at: usize, step: 
         let k = 4 * i;
         copy_four::<SIZE>(src, dst, at + k * step, step, k * SIZE);
     }
-    for k in 4 * fours..count {
+    // fewer than four, which the compiler sees of a remainder
+    for j in 0..count % 4 {
+        let k = 4 * fours + j;
         copy_sample::<SIZE>(src, dst, at + k * step, k * SIZE);
     }
 }

@@ -19,5 +19,5 @@ returns c =
     let size = length a.dst.now / 96 * 16 in
     let all : l.i ≡ length a.dst.now / 96 = omega arith in
     let alike : Alike a.src.now l.dst size 6 size = rw all at l.invariant in
-    let q = c.copy_from_slice in
-    parts_all a.src.now l.dst size q.new.self 6 (6 * size) (length l.dst) alike refl (omega arith) (omega arith) refl q.ensures.after
+    let q = c.copy_bytes in
+    parts_all a.src.now l.dst size q.new.dst 6 (6 * size) (length l.dst) alike refl (omega arith) (omega arith) refl q.ensures

@@ -1,11 +1,11 @@
 -- `copy_by_four`: k samples stand at the front of `dst`, four more after a turn and then one more.
 use mathlib.Core.Path.{◌≡◌, refl}
-use Prim.Native.Nat.{ℕ, ◌+◌, ◌*◌, ◌/◌, ◌≤◌, ◌<◌}
+use Prim.Native.Nat.{ℕ, ◌+◌, ◌*◌, ◌/◌, ◌%◌, ◌≤◌, ◌<◌}
 use native.Mathlib.Nat.{mul-le-mul_right}
 use native.Mathlib.Omega.{arith}
 use Rattle.format.specs.Bytes.{over}
 use Rattle.plane.specs.Pieces.{pieces}
-use Rattle.plane.proofs.Rows.{pieces_more, next_more}
+use Rattle.plane.proofs.Rows.{turn, pieces_more, next_more}
 use Rattle.plane.proofs.gather.copy_by_four.Goals as goal
 use Rattle.plane.proofs.gather.copy_by_four.Goals.{In-loop-i}
 
@@ -34,9 +34,22 @@ loop-i-preserved g c =
     (pieces_more a.src.now a.at a.step g.row.SIZE c.requires.0 a.dst.now l.dst c.copy_four.new.dst (4 * l.i) 4 l.invariant (omega (arith, in-s))
     (omega (arith, in-d)) c.copy_four.ensures)
 
-pub loop-k-preserved : goal.loop-k-preserved
-loop-k-preserved g c =
-    let l = c.loop-k in
+-- the one after those is one of count
+one_in : (j count x : ℕ) → j < count % 4 → (4 * (count / 4) + j) * x + x ≤ count * x
+one_in j count x h = turn (4 * (count / 4) + j) count x (omega arith)
+
+pub copy_sample-requires : goal.copy_sample-requires
+copy_sample-requires g c =
     let a = c.args in
-    next_more a.src.now a.at a.step g.row.SIZE c.requires.0 a.dst.now l.dst c.copy_sample.new.dst l.k a.count l.invariant c.loop-k-test.true c.requires.1
-    c.requires.2 c.copy_sample.ensures
+    let j = c.loop-j.j in
+    (omega (arith, one_in j a.count a.step c.loop-j-test.true), omega (arith, one_in j a.count g.row.SIZE c.loop-j-test.true))
+
+pub loop-j-preserved : goal.loop-j-preserved
+loop-j-preserved g c =
+    let l = c.loop-j in
+    let a = c.args in
+    let k = 4 * (a.count / 4) + l.j in
+    let next : 4 * (a.count / 4) + (l.j + 1) ≡ k + 1 = omega arith in
+    rw next
+    (next_more a.src.now a.at a.step g.row.SIZE c.requires.0 a.dst.now l.dst c.copy_sample.new.dst k a.count l.invariant (omega arith) c.requires.1
+    c.requires.2 c.copy_sample.ensures)
