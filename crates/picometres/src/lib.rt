@@ -29,6 +29,7 @@ fn size_in(tree: Tree) -> Result<u64, Refusal>
 }
 
 // The size in the tree of the calibration's chunk, which is left in the table.
+#[tactic(auto, using(named_tree::proofs::Answers::handed), unfolding(format::specs::Calls::Picometres::picometres_of, format::specs::Answer::and_then))]
 fn read_size(file: &[u8], u: Summary, table: &mut [u8]) -> Result<u64, Refusal>
     ensures { answer result ≡ picometres_of file.now u (room_in (length table.old)) }
 {
