@@ -16,7 +16,7 @@ const WIDE: usize = 64;
 // Rows of fewer bytes are copied one after another.
 const LONG_ROW: usize = 512;
 
-// Copies src into dst, which is as long: byte by byte, of which the compiler makes one call of memcpy.
+// Copies src into dst, which is as long: byte by byte, which the compiler makes blocks of. `copy_from_slice` would be a call of memmove.
 fn copy_bytes(src: &[u8], dst: &mut [u8])
     requires { length src.now ≡ length dst.old }
     ensures { dst.new ≡ src.now }
