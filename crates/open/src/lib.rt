@@ -88,7 +88,7 @@ fn recorded_in(tree: Tree) -> Result<Recorded, Refusal>
 }
 
 // The experiment in the tree of a chunk that the map has.
-#[tactic(auto, using(named_tree::proofs::Answers::handed, crate::proofs::Running::refused_first, crate::proofs::Running::read_first), unfolding(format::specs::Bytes::ascii))]
+#[tactic(auto, using(crate::proofs::Running::refused_first, crate::proofs::Running::read_first), unfolding(format::specs::Bytes::ascii))]
 fn read_experiment(file: &[u8], at: Lookup, table: &mut [u8]) -> Result<Recorded, Refusal>
     ensures { Tells result (and_then (tree_under file.now (room_in (length table.old)) (ascii "ImageMetadataLV!") (lookup_of at))
         (run_in file.now)) }
